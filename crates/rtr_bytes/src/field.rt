@@ -1,0 +1,45 @@
+//! Little-endian numbers at a place of a list of bytes.
+
+ghost use Rattle.std.specs.Prelude.{◌≡◌, ◌≤◌, ◌^◌, length};
+ghost use Rattle.rtr_bytes.specs.Field.{field_at};
+
+use byteorder::{ByteOrder, LittleEndian};
+
+/// The 16-bit number at a file offset, lowest byte first. `None` exactly where its two bytes pass the end.
+pub fn u16_at(bytes: &[u8], at: u32) -> Option<u16>
+    requires { length bytes.now ≤ 2 ^ 31 }
+    ensures { result ≡ field_at 2 bytes.now at }
+{
+    let at = at as usize;
+    if at + 2 <= bytes.len() {
+        Some(LittleEndian::read_u16(&bytes[at..]))
+    } else {
+        None
+    }
+}
+
+/// The 32-bit number at a file offset, lowest byte first. `None` exactly where its four bytes pass the end.
+pub fn u32_at(bytes: &[u8], at: u32) -> Option<u32>
+    requires { length bytes.now ≤ 2 ^ 31 }
+    ensures { result ≡ field_at 4 bytes.now at }
+{
+    let at = at as usize;
+    if at + 4 <= bytes.len() {
+        Some(LittleEndian::read_u32(&bytes[at..]))
+    } else {
+        None
+    }
+}
+
+/// The 64-bit number at a file offset, lowest byte first. `None` exactly where its eight bytes pass the end.
+pub fn u64_at(bytes: &[u8], at: u32) -> Option<u64>
+    requires { length bytes.now ≤ 2 ^ 31 }
+    ensures { result ≡ field_at 8 bytes.now at }
+{
+    let at = at as usize;
+    if at + 8 <= bytes.len() {
+        Some(LittleEndian::read_u64(&bytes[at..]))
+    } else {
+        None
+    }
+}

@@ -1,0 +1,16 @@
+//! Little-endian fields by their place, places and faults of a file, and the lists of public records.
+//!
+//! Every reader of a file stands on this crate. A reading call takes at most 2^31 bytes, so that each place
+//! in them, and each place one field behind them, is a `u32`.
+#![tactic(auto)]
+
+mod fault;
+mod field;
+mod list;
+
+pub use fault::{Fault, NoMemory, ReadRefusal, Span};
+pub use field::{u16_at, u32_at, u64_at};
+pub use list::Sequence;
+
+#[cfg(test)]
+mod tests;

@@ -1,0 +1,11 @@
+-- What a sink is seen as: the bytes that it took, where it tells them, and a count of its faults.
+use Rattle.std.specs.Prelude.{◌≡◌, ℕ, ◌+◌, ◌-◌, ◌^◌, ◌≤◌, List, ◌++◌, Option, min}
+use Rattle.std.specs.Option.{option_map}
+
+-- a count rose, or stands at the last value of its type
+abbrev pub Rose : ℕ → ℕ → Type 0
+Rose before now = min (before + 1) (2 ^ 64 - 1) ≤ now
+
+-- the piece came behind what was written, where that is told
+abbrev pub Appends : List ℕ → Option (List ℕ) → Option (List ℕ) → Type 0
+Appends piece old new = new ≡ option_map (λ bytes. bytes ++ piece) old
