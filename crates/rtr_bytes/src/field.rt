@@ -1,7 +1,7 @@
 //! Little-endian numbers at a place of a list of bytes.
 
 ghost use Rattle.std.specs.Prelude.{◌≡◌, ◌≤◌, ◌^◌, length};
-ghost use Rattle.rtr_bytes.specs.Field.{field_at};
+ghost use Rattle.rtr_bytes.specs.Field.{field_at, u16_of, u32_of};
 
 use byteorder::{ByteOrder, LittleEndian};
 
@@ -42,4 +42,20 @@ pub fn u64_at(bytes: &[u8], at: u32) -> Option<u64>
     } else {
         None
     }
+}
+
+/// The 16-bit number at a file offset, and 0 where its bytes pass the end.
+pub fn u16_or_zero(bytes: &[u8], at: u32) -> u16
+    requires { length bytes.now ≤ 2 ^ 31 }
+    ensures { result ≡ u16_of bytes.now at }
+{
+    u16_at(bytes, at).unwrap_or(0)
+}
+
+/// The 32-bit number at a file offset, and 0 where its bytes pass the end.
+pub fn u32_or_zero(bytes: &[u8], at: u32) -> u32
+    requires { length bytes.now ≤ 2 ^ 31 }
+    ensures { result ≡ u32_of bytes.now at }
+{
+    u32_at(bytes, at).unwrap_or(0)
 }

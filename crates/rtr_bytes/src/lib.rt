@@ -9,7 +9,7 @@ mod field;
 mod list;
 
 pub use fault::{Fault, NoMemory, ReadRefusal, Span};
-pub use field::{u16_at, u32_at, u64_at};
+pub use field::{u16_at, u16_or_zero, u32_at, u32_or_zero, u64_at};
 pub use list::Sequence;
 
 #[cfg(test)]

@@ -13,6 +13,10 @@ fn fields_by_place(rt: HostRuntime) {
     assert_eq!(rt; u32_at(&BYTES, u32::MAX), None);
     assert_eq!(rt; u64_at(&BYTES, 1), Some(0x0908_0706_0504_0302));
     assert_eq!(rt; u64_at(&BYTES, 2), None);
+    assert_eq!(rt; u16_or_zero(&BYTES, 7), 0x0908);
+    assert_eq!(rt; u16_or_zero(&BYTES, 8), 0);
+    assert_eq!(rt; u32_or_zero(&BYTES, 5), 0x0908_0706);
+    assert_eq!(rt; u32_or_zero(&BYTES, 6), 0);
 }
 
 #[test]

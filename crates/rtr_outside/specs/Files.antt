@@ -3,6 +3,10 @@ use Rattle.std.specs.Prelude.{◌≡◌, ◌≢◌, ℕ, ◌<◌, List, [], ◌�
 use Rattle.rtr_outside.specs.declared.files.FileRefusal.{FileRefusal}
 use Rattle.rtr_outside.specs.declared.files.FileRefusal.TheVariants.{Failed, TooLong, NoMemory}
 
+-- the most bytes that a file may have: 16 MiB
+abbrev pub file_limit : ℕ
+file_limit = 16777216
+
 -- a call, by the bytes of its file's name
 pub data Call : Type 0 where
   Read : List ℕ → Call

@@ -1,0 +1,4 @@
+pub mod Sections
+pub mod Headers
+pub mod Checks
+pub mod Reach

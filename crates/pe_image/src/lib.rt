@@ -1,0 +1,10 @@
+//! The PE headers of an assembly and its CLI header (PE/COFF 2 to 4, ECMA-335 II.25.3.3).
+#![tactic(auto)]
+
+mod cli;
+mod layout;
+mod pe;
+mod section;
+
+pub use pe::Pe;
+pub use section::PeSection;

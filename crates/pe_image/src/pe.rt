@@ -1,0 +1,134 @@
+//! The headers of an assembly's file, read whole.
+
+ghost use Rattle.std.specs.Prelude.{◌≡◌, ◌+◌, ◌≤◌, ◌<◌, ◌^◌, length, IfOk, IfErr, OnOk, IfSome};
+ghost use Rattle.rtr_bytes.specs.Checks.{first_fault, RefusedBy};
+ghost use Rattle.pe_image.specs.Headers.{Headers, headers_of};
+ghost use Rattle.pe_image.specs.Checks.{pe_checks};
+ghost use Rattle.pe_image.specs.Sections.{slice_of_rva};
+
+use crate::cli::{CLI_HEADER_SIZE, Cli, native_at};
+use crate::layout::{Layout, signature_at};
+use crate::section::{PeSection, read_sections, slice_in};
+use rtr_bytes::{ReadRefusal, Span, u32_or_zero};
+use std::alloc::Global;
+use std::marker::Model;
+
+/// The PE headers and the CLI header of an assembly. It keeps none of the file's bytes.
+#[derive(Debug, Drop)]
+pub struct Pe {
+    machine: u16,
+    wide: bool,
+    sections: Vec<PeSection>,
+    cli: Span,
+    metadata: Span,
+    cli_flags: u32,
+    entry_token: u32,
+    native: Option<Span>,
+}
+
+impl Model for Pe {
+    ghost use Rattle.pe_image.specs.Headers.{Headers};
+    ghost use Rattle.pe_image.specs.Reach.{AreInReach};
+
+    ghost Value = { Headers };
+
+    ghost view = { λ p. record { machine = p.machine; wide = p.wide; sections = p.sections.items; cli = p.cli; metadata = p.metadata; cli_flags = p.cli_flags; entry_token = p.entry_token; native = p.native } };
+
+    ghost invariant = { λ p. AreInReach p.sections.items p.cli p.metadata };
+}
+
+impl Pe {
+    /// Reads the headers of a file's bytes, of which there are at most 2^31. `Malformed` names the first
+    /// of the checks 1 to 14 that fails, with its place.
+    pub fn read(alloc: Global, bytes: &[u8]) -> Result<Pe, ReadRefusal>
+        requires { length bytes.now ≤ 2 ^ 31 }
+        ensures malformed { IfErr result (λ e. RefusedBy (first_fault pe_checks bytes.now) e) }
+        ensures well_formed { OnOk result (first_fault pe_checks bytes.now ≡ None) }
+        ensures headers { IfOk result (λ pe. pe ≡ headers_of bytes.now) }
+    {
+        let layout = Layout::read(bytes, signature_at(bytes)?)?;
+        let sections = read_sections(alloc, bytes, &layout)?;
+        let cli = Cli::read(bytes, &layout, &sections)?;
+        Ok(Pe {
+            machine: layout.machine,
+            wide: layout.wide,
+            sections,
+            cli: Span { start: cli.at, len: CLI_HEADER_SIZE },
+            metadata: cli.metadata,
+            cli_flags: u32_or_zero(bytes, cli.at + 16),
+            entry_token: u32_or_zero(bytes, cli.at + 20),
+            native: native_at(bytes, cli.at),
+        })
+    }
+
+    /// Machine (PE/COFF 3.3.1).
+    pub fn machine(&self) -> u16
+        ensures { result ≡ self.now.machine }
+    {
+        self.machine
+    }
+
+    /// Whether the optional header is that of PE32+, whose Magic is 0x20B, and not of PE32.
+    pub fn wide(&self) -> bool
+        ensures { result ≡ self.now.wide }
+    {
+        self.wide
+    }
+
+    /// The section headers, in the order of the section table.
+    pub fn sections(&self) -> &[PeSection]
+        ensures { result.now ≡ self.now.sections }
+    {
+        self.sections.as_slice()
+    }
+
+    /// The CLI header's 72 bytes, as a range of the file.
+    pub fn cli(&self) -> Span
+        ensures range { result ≡ self.now.cli }
+        // It ends at a file offset of 32 bits.
+        ensures in_reach { result.start + result.len < 2 ^ 32 }
+    {
+        self.cli
+    }
+
+    /// The metadata, as a range of the file. Where it has no bytes, its start may lie behind the file's end.
+    pub fn metadata(&self) -> Span
+        ensures range { result ≡ self.now.metadata }
+        // It ends at a file offset of 32 bits.
+        ensures in_reach { result.start + result.len < 2 ^ 32 }
+    {
+        self.metadata
+    }
+
+    /// Flags of the CLI header (ECMA-335 II.25.3.3.1).
+    pub fn cli_flags(&self) -> u32
+        ensures { result ≡ self.now.cli_flags }
+    {
+        self.cli_flags
+    }
+
+    /// EntryPointToken of the CLI header.
+    pub fn entry_token(&self) -> u32
+        ensures { result ≡ self.now.entry_token }
+    {
+        self.entry_token
+    }
+
+    /// ManagedNativeHeader of the CLI header, as a range of RVAs. `None` exactly where RVA and size are 0.
+    pub fn native(&self) -> Option<Span>
+        ensures { result ≡ self.now.native }
+    {
+        self.native
+    }
+
+    /// The file offset of a range of RVAs, in the first section whose VirtualAddress is at most `rva` and
+    /// whose VirtualAddress plus SizeOfRawData is at least `rva + len`. `None` exactly where there is no
+    /// such section, or where `rva + len` passes 2^32.
+    pub fn slice_of_rva(&self, rva: u32, len: u32) -> Option<u32>
+        ensures place { result ≡ slice_of_rva self.now.sections rva len }
+        // The range ends at a file offset of 32 bits.
+        ensures in_reach { IfSome result (λ at. at + len < 2 ^ 32) }
+    {
+        slice_in(&self.sections, rva, len)
+    }
+}

@@ -1,0 +1,60 @@
+//! The one public call.
+
+ghost use Rattle.std.specs.Prelude.{◌≡◌, ◌≤◌, ◌↔◌, map, string_bytes};
+ghost use Rattle.r2r.specs.Command.{command_of};
+ghost use Rattle.r2r.specs.Outcome.{DumpEnds, Prints, usage_line};
+ghost use Rattle.r2r.specs.Causes.{DumpCauses, IfDump};
+
+use crate::command::Command;
+use crate::dump_reply::reply_to_dump;
+use crate::output::print;
+use crate::refusals::USAGE;
+use rtr_bytes::NoMemory;
+use rtr_outside::{Files, Gate, Sink};
+use std::alloc::Global;
+use std::thread::Threads;
+
+/// Dumps a file.
+fn dump<F: Files, S: Sink>(alloc: Global, name: &str, files: &mut F, out: &mut S) -> u8
+    ensures ends { DumpEnds S.written S.faults (F.contents files.old) (F.failed_calls files.old) (F.failed_calls files.new) name.now out.old out.new result }
+    ensures contents { F.contents files.new ≡ F.contents files.old }
+    ensures never_falls { S.faults out.old ≤ S.faults out.new }
+{
+    match reply_to_dump(alloc, name, files) {
+        Ok(reply) => print(out, reply.text.as_slice(), reply.status),
+        Err(NoMemory) => 7,
+    }
+}
+
+/// Runs the command that the words are, over these files and this output, and answers the status that the
+/// program ends with. `words` leaves out the program's name.
+///
+/// 0: all was written. 1: the words are no command. 2: a file could not be read. 3: a file is malformed. 4: a
+/// named condition refuses. 5: the output failed. 7: memory was refused, and nothing was written.
+pub fn r2r<R: Threads + Sync, F: Files, S: Sink, G: Gate>(
+    _rt: &R,
+    alloc: Global,
+    words: &[String],
+    files: &mut F,
+    out: &mut S,
+    _gate: &G,
+) -> u8
+    // The words are no command exactly where the usage line is printed.
+    ensures usage { (result ≡ 1) ↔ (command_of (map string_bytes words.now) ≡ None) }
+    ensures usage_line { result ≡ 1 → Prints S.written S.faults usage_line out.old out.new × (F.failed_calls files.new ≡ F.failed_calls files.old) }
+
+    // A dump prints the reply to its file.
+    ensures dump { IfDump (command_of (map string_bytes words.now))
+        (λ name. DumpEnds S.written S.faults (F.contents files.old) (F.failed_calls files.old) (F.failed_calls files.new) name out.old out.new result) }
+    // When each status comes, and what is its cause.
+    ensures causes { IfDump (command_of (map string_bytes words.now))
+        (λ name. DumpCauses S.written S.faults (F.contents files.old) (F.failed_calls files.old) (F.failed_calls files.new) name out.old out.new result) }
+
+    ensures contents { F.contents files.new ≡ F.contents files.old }
+    ensures never_falls { S.faults out.old ≤ S.faults out.new }
+{
+    match Command::parse(words) {
+        Command::Usage => print(out, USAGE.as_bytes(), 1),
+        Command::Dump(name) => dump(alloc, name, files, out),
+    }
+}
