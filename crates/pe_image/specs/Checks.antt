@@ -40,7 +40,7 @@ section_checks =
 abbrev pub cli_checks : List Check
 cli_checks =
     check 12 (λ bytes. let at = cli_directory_at bytes in
-      holds_or (nat_le 72 (u32_of bytes (at + 4)) && is_some (place_of bytes (u32_of bytes at) 72)) at)
+    holds_or (nat_le 72 (u32_of bytes (at + 4)) && is_some (place_of bytes (u32_of bytes at) 72)) at)
     -- cb, the header's own size
     ∷ check 13 (λ bytes. holds_or (nat_le 72 (u32_of bytes (cli_at bytes))) (cli_at bytes))
     ∷ check 14 (λ bytes. holds_or (is_some (metadata_place bytes)) (cli_at bytes + 8))

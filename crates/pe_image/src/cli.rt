@@ -26,11 +26,7 @@ pub(crate) struct Cli {
 
 impl Cli {
     /// The CLI header that directory 14 names, and the metadata that it names.
-    pub(crate) fn read(
-        bytes: &[u8],
-        layout: &Layout,
-        sections: &[PeSection],
-    ) -> Result<Cli, Fault>
+    pub(crate) fn read(bytes: &[u8], layout: &Layout, sections: &[PeSection]) -> Result<Cli, Fault>
         requires small { length bytes.now ≤ 2 ^ 31 }
         requires directories { layout.now.directories ≡ optional_at bytes.now + directories_offset bytes.now }
         requires inside { layout.now.directories + 120 ≤ length bytes.now }
@@ -40,26 +36,41 @@ impl Cli {
         ensures ok { OnOk result (first_fault cli_checks bytes.now ≡ None) }
         ensures at { IfOk result (λ cli. cli.at ≡ cli_at bytes.now) }
         ensures in_reach { IfOk result (λ cli. cli.at + 72 < 2 ^ 32) }
-    ensures metadata_in_reach { IfOk result (λ cli. cli.metadata.start + cli.metadata.len < 2 ^ 32) }
-    ensures metadata { IfOk result (λ cli. cli.metadata ≡ record { start = unwrap_or (metadata_place bytes.now) 0; len = metadata_size bytes.now }) }
+        ensures metadata_in_reach { IfOk result (λ cli. cli.metadata.start + cli.metadata.len < 2 ^ 32) }
+        ensures metadata { IfOk result (λ cli. cli.metadata ≡ record { start = unwrap_or (metadata_place bytes.now) 0; len = metadata_size bytes.now }) }
     {
         let directory = layout.directories + CLI_DIRECTORY;
         let rva = u32_or_zero(bytes, directory);
         let size = u32_or_zero(bytes, directory + 4);
         let place = slice_in(sections, rva, CLI_HEADER_SIZE);
         let Some(at) = place else {
-            return Err(Fault { check: 12, place: directory });
+            return Err(Fault {
+                check: 12,
+                place: directory,
+            });
         };
         if size < CLI_HEADER_SIZE {
-            return Err(Fault { check: 12, place: directory });
+            return Err(Fault {
+                check: 12,
+                place: directory,
+            });
         }
         if u32_or_zero(bytes, at) < CLI_HEADER_SIZE {
-            return Err(Fault { check: 13, place: at });
+            return Err(Fault {
+                check: 13,
+                place: at,
+            });
         }
         let len = u32_or_zero(bytes, at + 12);
         match slice_in(sections, u32_or_zero(bytes, at + 8), len) {
-            Some(start) => Ok(Cli { at, metadata: Span { start, len } }),
-            None => Err(Fault { check: 14, place: at + 8 }),
+            Some(start) => Ok(Cli {
+                at,
+                metadata: Span { start, len },
+            }),
+            None => Err(Fault {
+                check: 14,
+                place: at + 8,
+            }),
         }
     }
 }
@@ -68,7 +79,11 @@ impl Cli {
 fn native_span(start: u32, len: u32) -> Option<Span>
     ensures { result ≡ native_span start len }
 {
-    if start == 0 && len == 0 { None } else { Some(Span { start, len }) }
+    if start == 0 && len == 0 {
+        None
+    } else {
+        Some(Span { start, len })
+    }
 }
 
 /// The native header that the CLI header at a place names.

@@ -26,20 +26,32 @@ pub(crate) fn signature_at(bytes: &[u8]) -> Result<u32, Fault>
 {
     let len = bytes.len() as u32;
     if len < 64 {
-        return Err(Fault { check: 1, place: len });
+        return Err(Fault {
+            check: 1,
+            place: len,
+        });
     }
     if u16_or_zero(bytes, 0) != DOS_SIGNATURE {
         return Err(Fault { check: 2, place: 0 });
     }
     let pe = u32_or_zero(bytes, 60);
     if u64::from(pe) + 24 > u64::from(len) {
-        return Err(Fault { check: 3, place: 60 });
+        return Err(Fault {
+            check: 3,
+            place: 60,
+        });
     }
     if u32_or_zero(bytes, pe) != PE_SIGNATURE {
-        return Err(Fault { check: 4, place: pe });
+        return Err(Fault {
+            check: 4,
+            place: pe,
+        });
     }
     if pe + 24 + u32::from(u16_or_zero(bytes, pe + 20)) > len {
-        return Err(Fault { check: 6, place: pe + 20 });
+        return Err(Fault {
+            check: 6,
+            place: pe + 20,
+        });
     }
     Ok(pe)
 }
@@ -76,23 +88,41 @@ impl Layout {
         let optional_size = u32::from(u16_or_zero(bytes, pe + 20));
         let magic = u16_or_zero(bytes, pe + 24);
         if optional_size < 2 || (magic != MAGIC_PE32 && magic != MAGIC_PE32_PLUS) {
-            return Err(Fault { check: 7, place: pe + 24 });
+            return Err(Fault {
+                check: 7,
+                place: pe + 24,
+            });
         }
         let wide = magic == MAGIC_PE32_PLUS;
         let offset = if wide { 112 } else { 96 };
         if optional_size < offset + 120 {
-            return Err(Fault { check: 8, place: pe + 20 });
+            return Err(Fault {
+                check: 8,
+                place: pe + 20,
+            });
         }
         let directories = pe + 24 + offset;
         if u32_or_zero(bytes, directories - 4) < 15 {
-            return Err(Fault { check: 9, place: directories - 4 });
+            return Err(Fault {
+                check: 9,
+                place: directories - 4,
+            });
         }
         let section_table = pe + 24 + optional_size;
         let section_count = u16_or_zero(bytes, pe + 6);
         if section_table as usize + 40 * usize::from(section_count) > bytes.len() {
-            return Err(Fault { check: 10, place: pe + 6 });
+            return Err(Fault {
+                check: 10,
+                place: pe + 6,
+            });
         }
         let machine = u16_or_zero(bytes, pe + 4);
-        Ok(Layout { machine, wide, directories, section_table, section_count })
+        Ok(Layout {
+            machine,
+            wide,
+            directories,
+            section_table,
+            section_count,
+        })
     }
 }

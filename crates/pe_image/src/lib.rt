@@ -8,3 +8,6 @@ mod section;
 
 pub use pe::Pe;
 pub use section::PeSection;
+
+#[cfg(test)]
+mod tests;

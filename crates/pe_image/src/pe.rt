@@ -53,7 +53,10 @@ impl Pe {
             machine: layout.machine,
             wide: layout.wide,
             sections,
-            cli: Span { start: cli.at, len: CLI_HEADER_SIZE },
+            cli: Span {
+                start: cli.at,
+                len: CLI_HEADER_SIZE,
+            },
             metadata: cli.metadata,
             cli_flags: u32_or_zero(bytes, cli.at + 16),
             entry_token: u32_or_zero(bytes, cli.at + 20),

@@ -64,7 +64,10 @@ impl PeSection {
         if section.raw_size == 0 || end <= bytes.len() as u64 {
             Ok(section)
         } else {
-            Err(Fault { check: 11, place: at + 20 })
+            Err(Fault {
+                check: 11,
+                place: at + 20,
+            })
         }
     }
 

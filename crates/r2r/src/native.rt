@@ -88,15 +88,28 @@ fn locate(pe: &Pe, bytes: &[u8], native: Span) -> Result<Places, Fault>
     ensures in_reach { IfOk result (λ p. p.records + 12 * p.count < 2 ^ 32) }
 {
     let Some(header) = pe.slice_of_rva(native.start, HEADER_SIZE) else {
-        return Err(Fault { check: 16, place: pe.cli().start + 64 });
+        return Err(Fault {
+            check: 16,
+            place: pe.cli().start + 64,
+        });
     };
     if u32_or_zero(bytes, header) != SIGNATURE {
-        return Err(Fault { check: 17, place: header });
+        return Err(Fault {
+            check: 17,
+            place: header,
+        });
     }
     let count = u32_or_zero(bytes, header + 12);
     match records_in(pe, native.start, count) {
-        Some(records) => Ok(Places { header, records, count }),
-        None => Err(Fault { check: 18, place: header + 12 }),
+        Some(records) => Ok(Places {
+            header,
+            records,
+            count,
+        }),
+        None => Err(Fault {
+            check: 18,
+            place: header + 12,
+        }),
     }
 }
 
@@ -155,7 +168,10 @@ impl RtrSection {
             && section.size != 0
             && pe.slice_of_rva(section.rva, section.size).is_none()
         {
-            return Err(Fault { check: 20, place: at + 4 });
+            return Err(Fault {
+                check: 20,
+                place: at + 4,
+            });
         }
         Ok(section)
     }
@@ -238,7 +254,9 @@ fn is_named(pe: &Pe, bytes: &[u8], sections: &[RtrSection]) -> bool
     requires pe { pe.now ≡ headers_of bytes.now }
     ensures { result ≡ list_any (is_identifier bytes.now) sections.now }
 {
-    sections.iter().any(|section| section.is_identifier(pe, bytes))
+    sections
+        .iter()
+        .any(|section| section.is_identifier(pe, bytes))
 }
 
 /// Whether an image is this compiler's: for A64, of version 5.0, with the identifier.

@@ -8,7 +8,8 @@ use rtr_bytes::{Fault, NoMemory};
 use std::alloc::Global;
 
 /// What is printed where the words are no command.
-pub(crate) const USAGE: &str = "usage: r2r compile IN -o OUT [--ref F].. [--fields cell|burn] | run IMAGE [--ref F].. [--entry T::M] [--worker A,B].. [--ticks N] [--cells] | dump FILE | big N\n";
+pub(crate) const USAGE: &str =
+    "usage: r2r compile IN -o OUT [--ref F].. [--fields cell|burn] | run IMAGE [--ref F].. [--entry T::M] [--worker A,B].. [--ticks N] [--cells] | dump FILE | big N\n";
 
 /// The line for a file that could not be read.
 pub(crate) fn read_failed(alloc: Global, name: &str) -> Result<Text, NoMemory>

@@ -25,7 +25,9 @@ impl Text {
     pub(crate) fn new(alloc: Global) -> Text
         ensures { result ≡ [] }
     {
-        Text { bytes: Vec::new(alloc) }
+        Text {
+            bytes: Vec::new(alloc),
+        }
     }
 
     /// The bytes of the text.
@@ -70,7 +72,8 @@ impl Text {
         ensures { OnOk result (self.new ≡ self.old ++ words.now ++ decimal number) }
     {
         self.words(words)?;
-        self.bytes.extend_from_slice(Buffer::new().format(number).as_bytes())?;
+        self.bytes
+            .extend_from_slice(Buffer::new().format(number).as_bytes())?;
         Ok(())
     }
 

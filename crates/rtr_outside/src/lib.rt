@@ -4,10 +4,25 @@
 //! that the object itself has recorded, so such code cannot make one up.
 #![tactic(auto)]
 
-mod gate;
+mod calls;
 mod files;
+mod gate;
+mod mem_files;
+mod mem_sink;
+mod named;
+mod real_files;
+mod real_sink;
 mod sink;
+mod sure;
 
 pub use files::{FILE_LIMIT, FileRefusal, Files};
 pub use gate::{Gate, OpenGate};
+pub use mem_files::MemFiles;
+pub use mem_sink::MemSink;
+pub use real_files::RealFiles;
+pub use real_sink::RealSink;
 pub use sink::{Sink, SinkFailed};
+pub use sure::{SureFiles, SureSink};
+
+#[cfg(test)]
+mod tests;

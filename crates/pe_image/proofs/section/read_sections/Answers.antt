@@ -31,8 +31,8 @@ loop-i-preserved c =
     let below : i < n = omega arith in
     record {
       read =
-        rw c.in_ok-push.ensures.items (records-more (section_at bytes) start 40 n i c.loop-i.sections.items (sections_of bytes) section below (read.section ∙ ap (λ (t : ℕ). section_at bytes (t + 40 * i)) c.requires.table) c.loop-i.invariant.read);
+          rw c.in_ok-push.ensures.items (records-more (section_at bytes) start 40 n i c.loop-i.sections.items (sections_of bytes) section below (read.section ∙ ap (λ (t : ℕ). section_at bytes (t + 40 * i)) c.requires.table) c.loop-i.invariant.read);
       checked =
-        sym (first_record-step (raw_range_fits bytes) start 40 n i below (ap (λ (t : ℕ). raw_range_fits bytes (t + 40 * i)) (sym c.requires.table) ∙ read.fits)) ∙ c.loop-i.invariant.checked;
+          sym (first_record-step (raw_range_fits bytes) start 40 n i below (ap (λ (t : ℕ). raw_range_fits bytes (t + 40 * i)) (sym c.requires.table) ∙ read.fits)) ∙ c.loop-i.invariant.checked;
       in_reach = rw c.in_ok-push.ensures.items (All-push IsInReach c.loop-i.sections.items section c.loop-i.invariant.in_reach read.in_reach);
     }

@@ -29,9 +29,9 @@ loop-i-preserved c =
     let here : c.args.places.now.records ≡ start = c.requires.records (omega arith) in
     record {
       read =
-        rw c.in_ok-push.ensures.items (records-more (rtr_section_at bytes) start 12 n i c.loop-i.sections.items (rtr_sections_of bytes) section below (read.section ∙ ap (λ (t : ℕ). rtr_section_at bytes (t + 12 * i)) here) c.loop-i.invariant.read);
+          rw c.in_ok-push.ensures.items (records-more (rtr_section_at bytes) start 12 n i c.loop-i.sections.items (rtr_sections_of bytes) section below (read.section ∙ ap (λ (t : ℕ). rtr_section_at bytes (t + 12 * i)) here) c.loop-i.invariant.read);
       checked =
-        sym (first_record-step (range_is_placed bytes) start 12 n i below (ap (λ (t : ℕ). range_is_placed bytes (t + 12 * i)) (sym here) ∙ read.placed)) ∙ c.loop-i.invariant.checked;
+          sym (first_record-step (range_is_placed bytes) start 12 n i below (ap (λ (t : ℕ). range_is_placed bytes (t + 12 * i)) (sym here) ∙ read.placed)) ∙ c.loop-i.invariant.checked;
     }
 
 pub returns-clause-ok : goal.returns-clause-ok

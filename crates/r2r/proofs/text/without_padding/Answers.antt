@@ -10,6 +10,6 @@ loop-len-preserved c =
 pub returns : goal.returns
 returns c =
     elim c.loop-len-test.branch [
-      then-loop-len-test+else-name-len-eq0 w ↦ sym (trimmed-take_other c.args.name.now c.loop-len.len w.loop-len-test.true c.loop-len.invariant.0 w.if-name-len-eq0.false) ∙ c.loop-len.invariant.1
-    | else-loop-len-test w ↦ sym (trimmed-take_none c.args.name.now c.loop-len.len (omega arith)) ∙ c.loop-len.invariant.1
+      | then-loop-len-test+else-name-len-eq0 w ↦ sym (trimmed-take_other c.args.name.now c.loop-len.len w.loop-len-test.true c.loop-len.invariant.0 w.if-name-len-eq0.false) ∙ c.loop-len.invariant.1
+      | else-loop-len-test w ↦ sym (trimmed-take_none c.args.name.now c.loop-len.len (omega arith)) ∙ c.loop-len.invariant.1
     ]
