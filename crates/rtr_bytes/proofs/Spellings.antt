@@ -3,7 +3,8 @@ use Rattle.std.proofs.Common.{◌≡◌, ◌≤◌, ◌<◌, ◌^◌, ◌+◌, �
 use Rattle.std.specs.List.{slice_range}
 use Rattle.std.proofs.Math.Seq.{drop-append_seam}
 use Rattle.std.proofs.lemmas.List.{take_all, get_or-drop}
-use Rattle.rtr_bytes.specs.Compressed.{IsCompressed, compressed_bytes, BeginsAt}
+use Rattle.rtr_bytes.specs.Compressed.{IsCompressed, compressed_bytes}
+use Rattle.rtr_bytes.specs.Spelling.{BeginsAt}
 
 -- each item is a byte
 abbrev pub AreBytes : List ℕ → Type 0

@@ -1,5 +1,5 @@
 -- Compressed unsigned integers (ECMA-335 II.23.2). A list of bytes is a list of numbers below 256.
-use Rattle.std.specs.Prelude.{◌≡◌, ◌≤◌, ◌<◌, ℕ, ◌+◌, ◌-◌, ◌*◌, ◌^◌, nat_lt, if◌then◌else◌, List, [], ◌∷◌, ◌++◌, length, drop}
+use Rattle.std.specs.Prelude.{◌≡◌, ◌≤◌, ◌<◌, ℕ, ◌+◌, ◌-◌, ◌*◌, ◌^◌, nat_lt, if◌then◌else◌, List, [], ◌∷◌}
 use Rattle.byteorder.specs.Endian.{big_bytes}
 
 -- The bytes spell the number, the most significant byte first: behind a top bit 0 there are 7 bits, behind
@@ -16,13 +16,3 @@ abbrev pub compressed_bytes : ℕ → List ℕ
 compressed_bytes n =
     if nat_lt n (2 ^ 7) then n ∷ []
     else (if nat_lt n (2 ^ 14) then big_bytes 2 (0x8000 + n) else big_bytes 4 (0xC000_0000 + n))
-
--- a spelling of x begins at a place, and it is the bytes up to the next place
-abbrev pub BeginsAt : {X : Type 0} → (List ℕ → X → Type 0) → List ℕ → ℕ → X → ℕ → Type 0
-BeginsAt Spells bytes at x next =
-    (spelling : List ℕ) × (rest : List ℕ) × (drop at bytes ≡ spelling ++ rest) × Spells spelling x × (next ≡ at + length spelling)
-
--- no spelling begins another, and none is of two values
-abbrev pub NoneBeginsAnother : {X : Type 0} → (List ℕ → X → Type 0) → Type 0
-NoneBeginsAnother {X = X} Spells =
-    (a b more rest : List ℕ) (x y : X) → Spells a x → Spells b y → a ++ more ≡ b ++ rest → (a ≡ b) × (x ≡ y)

@@ -1,7 +1,8 @@
 //! Compressed unsigned integers (ECMA-335 II.23.2).
 
 ghost use Rattle.std.specs.Prelude.{◌≡◌, ◌≤◌, ◌<◌, ◌^◌, ◌+◌, ◌++◌, ℕ, List, Some, length, IfSome, OnOk, OnErr};
-ghost use Rattle.rtr_bytes.specs.Compressed.{IsCompressed, compressed_bytes, BeginsAt, NoneBeginsAnother};
+ghost use Rattle.rtr_bytes.specs.Compressed.{IsCompressed, compressed_bytes};
+ghost use Rattle.rtr_bytes.specs.Spelling.{BeginsAt, NoneBeginsAnother};
 
 use crate::fault::NoMemory;
 use byteorder::{BigEndian, ByteOrder};
@@ -54,10 +55,12 @@ pub fn no_compressed_begins_another()
 pub fn shortest_compressed()
     ensures spells { (n : ℕ) → n < 2 ^ 29 → IsCompressed (compressed_bytes n) n }
     // No other spelling of the number is shorter.
-    ensures shortest { (bytes : List ℕ) (n : ℕ) → IsCompressed bytes n → length (compressed_bytes n) ≤ length bytes }
+    ensures shortest { (bytes : List ℕ) (n : ℕ) → IsCompressed bytes n
+        → length (compressed_bytes n) ≤ length bytes }
     // It is read again behind whatever bytes, and whatever follows.
-    ensures read_back { (n : ℕ) (before rest : List ℕ) → n < 2 ^ 29 →
-        BeginsAt IsCompressed (before ++ compressed_bytes n ++ rest) (length before) n (length before + length (compressed_bytes n)) }
+    ensures read_back { (n : ℕ) (before rest : List ℕ) → n < 2 ^ 29
+        → BeginsAt IsCompressed (before ++ compressed_bytes n ++ rest) (length before) n
+        (length before + length (compressed_bytes n)) }
 {}
 
 #[cfg(test)]

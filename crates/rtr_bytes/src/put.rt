@@ -10,7 +10,8 @@ ghost use Rattle.rtr_bytes.specs.Field.{field_at};
 pub fn put_u32(bytes: &mut [u8], at: u32, value: u32) -> bool
     ensures fits { IsTrue result ↔ (at + 4 ≤ length bytes.old) }
     // Exactly the four bytes are the number's.
-    ensures written { OnTrue result (bytes.new ≡ take at bytes.old ++ little_bytes 4 value ++ drop (at + 4) bytes.old) }
+    ensures written { OnTrue result
+        (bytes.new ≡ take at bytes.old ++ little_bytes 4 value ++ drop (at + 4) bytes.old) }
     ensures read_back { OnTrue result (field_at 4 bytes.new at ≡ Some value) }
     ensures refused { OnFalse result (bytes.new ≡ bytes.old) }
 {
