@@ -13,6 +13,7 @@ use Rattle.fixup_sigs.specs.declared.signature.Payload.TheVariants as payloads
 use Rattle.fixup_sigs.specs.declared.signature.Shape.{Shape}
 use Rattle.fixup_sigs.specs.declared.signature.Shape.TheVariants as shapes
 use Rattle.fixup_sigs.specs.Fixup.{signature_of, shape_of, IsPair, IsSigType, flags_of, IsFieldToken, IsPayload, IsFixup}
+use Rattle.fixup_sigs.proofs.Signatures.{same_field}
 
 -- what stands behind fronts that are one
 behind_fronts : (a b x y : List ℕ) → a ≡ b → a ++ x ≡ b ++ y → x ≡ y
@@ -75,10 +76,6 @@ same_flags false false e = refl
 same_flags false true e = absurd (omega arith)
 same_flags true false e = absurd (omega arith)
 same_flags true true e = refl
-
-pub same_field : (field other : FieldToken) → field.member_ref ≡ other.member_ref → field.row ≡ other.row → field ≡ other
-same_field field other m r =
-    ap (λ b. let f : FieldToken = record { member_ref = b; row = field.row } in f) m ∙ ap (λ n. let f : FieldToken = record { member_ref = other.member_ref; row = n } in f) r
 
 field_apart : NoneBeginsAnother IsCompressed → NoneBeginsAnother IsFieldToken
 field_apart numbers a b more rest field other h k whole =

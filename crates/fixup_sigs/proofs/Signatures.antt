@@ -2,11 +2,16 @@
 use Rattle.std.proofs.Common.{◌≡◌, ◌<◌, ◌+◌, ℕ, List, length, get_or, Option, Some, unwrap_or, sym, ap, ◌∙◌, subst}
 use Rattle.rtr_bytes.specs.Spelling.{BeginsAt}
 use Rattle.fixup_sigs.specs.declared.fixup.Fixup.{Fixup}
+use Rattle.fixup_sigs.specs.declared.fixup.FieldToken.{FieldToken}
 use Rattle.fixup_sigs.specs.declared.signature.Payload.{Payload}
 use Rattle.fixup_sigs.specs.declared.signature.Shape.{Shape}
 use Rattle.fixup_sigs.specs.declared.signature.Signature.{Signature}
 use Rattle.fixup_sigs.specs.Fixup.{signature, signature_of, shape_of, IsBehind, IsPayload, IsFixup}
 use Rattle.fixup_sigs.proofs.Places.{behind_begins, begins_behind}
+
+pub same_field : (field other : FieldToken) → field.member_ref ≡ other.member_ref → field.row ≡ other.row → field ≡ other
+same_field field other m r =
+    ap (λ b. let f : FieldToken = record { member_ref = b; row = field.row } in f) m ∙ ap (λ n. let f : FieldToken = record { member_ref = other.member_ref; row = n } in f) r
 
 pub same_signature : (s : Signature) (kind : ℕ) (payload : Payload) → s.kind ≡ kind → s.payload ≡ payload → s ≡ signature kind payload
 same_signature s kind payload k p = ap (λ b. signature b s.payload) k ∙ ap (λ (q : Payload). signature kind q) p

@@ -37,7 +37,8 @@ pub struct Signature {
     pub payload: Payload,
 }
 
-/// Which payload stands behind the byte of a kind.
+/// Which payload stands behind the byte of a kind. What it answers for other bytes is left open: no fixup has
+/// such a signature.
 pub fn shape_behind(kind: u8) -> Option<Shape>
     ensures { (fixup : Fixup) → (signature_of fixup).kind ≡ kind
         → result ≡ Some (shape_of (signature_of fixup).payload) }

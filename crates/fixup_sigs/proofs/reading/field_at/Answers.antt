@@ -1,13 +1,10 @@
-use Rattle.std.proofs.Common.{◌≡◌, ℕ, Bool, None, Some, unwrap_or, ap, ◌∙◌, subst}
+use Rattle.std.proofs.Common.{ℕ, None, Some, unwrap_or, ap, subst}
 use Rattle.rtr_bytes.specs.Compressed.{IsCompressed}
 use Rattle.rtr_bytes.specs.Spelling.{BeginsAt}
-use Rattle.fixup_sigs.specs.declared.fixup.FieldToken.{FieldToken}
 use Rattle.fixup_sigs.specs.Fixup.{IsPair, flags_of}
+use Rattle.fixup_sigs.proofs.Signatures.{same_field}
 use Rattle.fixup_sigs.proofs.Places.{same_answer, pair_begins, pair_first, pair_second}
 use Rattle.fixup_sigs.proofs.reading.field_at.Goals as goal
-
-same_field : (field : FieldToken) (member_ref : Bool) (row : ℕ) → member_ref ≡ field.member_ref → row ≡ field.row → ◌≡◌ {A = FieldToken} (record { member_ref = member_ref; row = row }) field
-same_field field member_ref row m r = ap (λ b. let f : FieldToken = record { member_ref = b; row = row } in f) m ∙ ap (λ n. let f : FieldToken = record { member_ref = field.member_ref; row = n } in f) r
 
 pub returns-in_err-flags-clause-only : goal.returns-in_err-flags-clause-only
 returns-in_err-flags-clause-only c field next h =
@@ -33,5 +30,5 @@ returns-clause-only c field next h =
     (Some (c.in_ok-row.row, c.in_ok-row.next)) c.in_ok-flags.ensures.only c.in_ok-row.ensures.only h in
     let (row, end) = same_answer c.in_ok-row.row field.row c.in_ok-row.next next answer in
     let member_ref = ap (λ o. unwrap_or o c.in_ok-member_ref.member_ref) (c.in_ok-member_ref.ensures.only field.member_ref same) in
-    let whole = same_field field c.in_ok-member_ref.member_ref c.in_ok-row.row member_ref row in
+    let whole = same_field (record { member_ref = c.in_ok-member_ref.member_ref; row = c.in_ok-row.row }) field member_ref row in
     cc
