@@ -1,7 +1,8 @@
 //! Writing a fixup.
 
 ghost use Rattle.std.specs.Prelude.{◌≡◌, ◌<◌, ◌^◌, ◌++◌, OnOk, OnErr};
-ghost use Rattle.fixup_sigs.specs.Shortest.{IsSpellable, IsSpellableType, IsSpellablePayload, fixup_bytes, signature_bytes, payload_bytes, type_bytes, field_bytes, Extends};
+ghost use Rattle.fixup_sigs.specs.Shortest.{IsSpellable, IsSpellableType, IsSpellablePayload, Extends};
+ghost use Rattle.fixup_sigs.specs.Shortest.{fixup_bytes, signature_bytes, payload_bytes, type_bytes, field_bytes};
 
 use crate::element::{CLASS, OBJECT, STRING, SZARRAY};
 use crate::fixup::{FieldToken, Fixup, SigType};
