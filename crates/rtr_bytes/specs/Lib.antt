@@ -1,2 +1,4 @@
 pub mod Field
 pub mod Checks
+pub mod Spelling
+pub mod Compressed

@@ -4,13 +4,19 @@
 //! in them, and each place one field behind them, is a `u32`.
 #![tactic(auto)]
 
+mod compressed;
 mod fault;
 mod field;
 mod list;
+mod put;
 
+pub use compressed::{
+    compressed_at, no_compressed_begins_another, put_compressed, shortest_compressed,
+};
 pub use fault::{Fault, NoMemory, ReadRefusal, Span};
 pub use field::{u16_at, u16_or_zero, u32_at, u32_or_zero, u64_at};
 pub use list::Sequence;
+pub use put::put_u32;
 
 #[cfg(test)]
 mod tests;

@@ -1,0 +1,5 @@
+pub mod Apart
+pub mod Payloads
+pub mod Places
+pub mod Signatures
+pub mod Written

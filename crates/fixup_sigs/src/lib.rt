@@ -1,0 +1,22 @@
+//! Fixup signatures, both ways.
+//!
+//! A fixup says what a cell of a ReadyToRun image stands for: a method's entry, a type, the place of a field.
+//! Its signature is one byte of its kind and the kind's payload. [`read_fixup`] reads one at a file offset, and
+//! [`write_fixup`] appends the shortest spelling.
+#![tactic(auto)]
+
+mod element;
+mod fixup;
+mod kind;
+mod laws;
+mod reading;
+mod signature;
+mod writing;
+
+pub use fixup::{FieldToken, Fixup, SigType};
+pub use laws::{no_fixup_begins_another, shortest_fixup};
+pub use reading::read_fixup;
+pub use writing::write_fixup;
+
+#[cfg(test)]
+mod tests;

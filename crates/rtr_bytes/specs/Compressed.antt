@@ -1,0 +1,18 @@
+-- Compressed unsigned integers (ECMA-335 II.23.2). A list of bytes is a list of numbers below 256.
+use Rattle.std.specs.Prelude.{◌≡◌, ◌≤◌, ◌<◌, ℕ, ◌+◌, ◌-◌, ◌*◌, ◌^◌, nat_lt, if◌then◌else◌, List, [], ◌∷◌}
+use Rattle.byteorder.specs.Endian.{big_bytes}
+
+-- The bytes spell the number, the most significant byte first: behind a top bit 0 there are 7 bits, behind
+-- 10 there are 14 in two bytes, and behind 110 there are 29 in four.
+abbrev pub IsCompressed : List ℕ → ℕ → Type 0
+IsCompressed (a ∷ []) n = (a < 0x80) × (n ≡ a)
+IsCompressed (a ∷ b ∷ []) n = (0x80 ≤ a) × (a < 0xC0) × (b < 256) × (n ≡ (a - 0x80) * 256 + b)
+IsCompressed (a ∷ b ∷ c ∷ d ∷ []) n =
+    (0xC0 ≤ a) × (a < 0xE0) × (b < 256) × (c < 256) × (d < 256) × (n ≡ (((a - 0xC0) * 256 + b) * 256 + c) * 256 + d)
+IsCompressed bytes n = ⊥
+
+-- the shortest spelling of a number below 2^29
+abbrev pub compressed_bytes : ℕ → List ℕ
+compressed_bytes n =
+    if nat_lt n (2 ^ 7) then n ∷ []
+    else (if nat_lt n (2 ^ 14) then big_bytes 2 (0x8000 + n) else big_bytes 4 (0xC000_0000 + n))

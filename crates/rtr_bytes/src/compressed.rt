@@ -1,0 +1,103 @@
+//! Compressed unsigned integers (ECMA-335 II.23.2).
+
+ghost use Rattle.std.specs.Prelude.{◌≡◌, ◌≤◌, ◌<◌, ◌^◌, ◌+◌, ◌++◌, ℕ, List, Some, length, IfSome, OnOk, OnErr};
+ghost use Rattle.rtr_bytes.specs.Compressed.{IsCompressed, compressed_bytes};
+ghost use Rattle.rtr_bytes.specs.Spelling.{BeginsAt, NoneBeginsAnother};
+
+use crate::fault::NoMemory;
+use byteorder::{BigEndian, ByteOrder};
+
+/// The compressed unsigned integer at a file offset, and the offset behind it. A longer spelling than the
+/// number needs is read too. `None` exactly where none is spelled there: the bytes are cut, or the first one
+/// has the top bits 111.
+pub fn compressed_at(bytes: &[u8], at: u32) -> Option<(u32, u32)>
+    requires { length bytes.now ≤ 2 ^ 31 }
+    // The number is spelled by exactly the bytes up to the next place.
+    ensures found { IfSome result (λ found. BeginsAt IsCompressed bytes.now at found.0 found.1) }
+    // What is spelled there is read.
+    ensures only { (n next : ℕ) → BeginsAt IsCompressed bytes.now at n next → result ≡ Some (n, next) }
+    ensures bounded { IfSome result (λ found. found.0 < 2 ^ 29) }
+{
+    let front = bytes.get(at as usize..)?;
+    match front {
+        [a, ..] if *a < 0x80 => Some((*a as u32, at + 1)),
+        [a, _, ..] if *a < 0xC0 => Some((BigEndian::read_u16(front) as u32 - 0x8000, at + 2)),
+        [a, _, _, _, ..] if *a < 0xE0 => {
+            Some((BigEndian::read_u32(front) - 0xC000_0000, at + 4))
+        }
+        _ => None,
+    }
+}
+
+/// Appends a number in its shortest spelling. After an `Err` the vector has what it had.
+pub fn put_compressed(out: &mut Vec<u8>, value: u32) -> Result<(), NoMemory>
+    requires { value < 2 ^ 29 }
+    ensures written { OnOk result (out.new.items ≡ out.old.items ++ compressed_bytes value) }
+    ensures err { OnErr result (out.new.items ≡ out.old.items) }
+{
+    if value < 0x80 {
+        out.push(value as u8)?;
+    } else if value < 0x4000 {
+        out.extend_from_slice(&(0x8000 + value as u16).to_be_bytes())?;
+    } else {
+        out.extend_from_slice(&(0xC000_0000 + value).to_be_bytes())?;
+    }
+    Ok(())
+}
+
+/// The law of compressed integers: none begins another. So at a place there is one at most, and what was
+/// written is read again, whatever follows it.
+pub fn no_compressed_begins_another()
+    ensures { NoneBeginsAnother IsCompressed }
+{}
+
+/// The law of the spelling that [`put_compressed`] writes.
+pub fn shortest_compressed()
+    ensures spells { (n : ℕ) → n < 2 ^ 29 → IsCompressed (compressed_bytes n) n }
+    // No other spelling of the number is shorter.
+    ensures shortest { (bytes : List ℕ) (n : ℕ) → IsCompressed bytes n
+        → length (compressed_bytes n) ≤ length bytes }
+    // It is read again behind whatever bytes, and whatever follows.
+    ensures read_back { (n : ℕ) (before rest : List ℕ) → n < 2 ^ 29
+        → BeginsAt IsCompressed (before ++ compressed_bytes n ++ rest) (length before) n
+        (length before + length (compressed_bytes n)) }
+{}
+
+#[cfg(test)]
+mod tests {
+    use super::*;
+    use std::test::Fail;
+
+    #[test]
+    fn spellings(rt: HostRuntime) -> Result<(), Fail> {
+        let rows: [(u32, &[u8]); 6] = [
+            (3, &[0x03]),
+            (0x7F, &[0x7F]),
+            (0x80, &[0x80, 0x80]),
+            (0x3FFF, &[0xBF, 0xFF]),
+            (0x4000, &[0xC0, 0x00, 0x40, 0x00]),
+            (0x1FFF_FFFF, &[0xDF, 0xFF, 0xFF, 0xFF]),
+        ];
+        for (value, spelling) in rows {
+            let mut out = Vec::new(rt.alloc());
+            assert!(rt; put_compressed(&mut out, value).is_ok());
+            assert_eq!(rt; out.as_slice(), spelling);
+            assert_eq!(rt;
+                compressed_at(spelling, 0),
+                Some((value, spelling.len() as u32))
+            );
+        }
+        Ok(())
+    }
+
+    #[test]
+    fn longer_cut_and_none(rt: HostRuntime) {
+        assert_eq!(rt; compressed_at(&[9, 0x80, 0x03, 9], 1), Some((3, 3)));
+        assert_eq!(rt; compressed_at(&[0xC0, 0, 0, 3], 0), Some((3, 4)));
+        assert_eq!(rt; compressed_at(&[0xE0], 0), None);
+        assert_eq!(rt; compressed_at(&[0x80], 0), None);
+        assert_eq!(rt; compressed_at(&[0xDF, 0xFF, 0xFF], 0), None);
+        assert_eq!(rt; compressed_at(&[0], 1), None);
+        assert_eq!(rt; compressed_at(&[0], u32::MAX), None);
+    }
+}

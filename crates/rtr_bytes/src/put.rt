@@ -1,0 +1,39 @@
+//! Little-endian numbers, written at a place of a list of bytes.
+
+ghost use Rattle.std.specs.Prelude.{◌≡◌, ◌≤◌, ◌+◌, ◌++◌, ◌↔◌, IsTrue, Some, length, take, drop};
+ghost use Rattle.std.specs.Bool.{OnTrue, OnFalse};
+ghost use Rattle.byteorder.specs.Endian.{little_bytes};
+ghost use Rattle.rtr_bytes.specs.Field.{field_at};
+
+/// Writes a 32-bit number at a file offset, lowest byte first. `false` exactly where its four bytes pass the
+/// end, and then nothing changes.
+pub fn put_u32(bytes: &mut [u8], at: u32, value: u32) -> bool
+    ensures fits { IsTrue result ↔ (at + 4 ≤ length bytes.old) }
+    // Exactly the four bytes are the number's.
+    ensures written { OnTrue result
+        (bytes.new ≡ take at bytes.old ++ little_bytes 4 value ++ drop (at + 4) bytes.old) }
+    ensures read_back { OnTrue result (field_at 4 bytes.new at ≡ Some value) }
+    ensures refused { OnFalse result (bytes.new ≡ bytes.old) }
+{
+    let at = at as usize;
+    if at + 4 > bytes.len() {
+        return false;
+    }
+    bytes[at..at + 4].copy_from_slice(&value.to_le_bytes());
+    true
+}
+
+#[cfg(test)]
+mod tests {
+    use super::*;
+
+    #[test]
+    fn number_in_its_place(rt: HostRuntime) {
+        let mut bytes = [9; 6];
+        assert!(rt; put_u32(&mut bytes, 1, 0x0403_0201));
+        assert_eq!(rt; bytes, [9, 1, 2, 3, 4, 9]);
+        assert!(rt; !put_u32(&mut bytes, 3, 7));
+        assert!(rt; !put_u32(&mut bytes, u32::MAX, 7));
+        assert_eq!(rt; bytes, [9, 1, 2, 3, 4, 9]);
+    }
+}
