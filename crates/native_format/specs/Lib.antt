@@ -1,0 +1,3 @@
+pub mod Uint
+pub mod Nibbles
+pub mod NibbleSteps
