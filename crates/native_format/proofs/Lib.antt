@@ -1,1 +1,3 @@
 pub mod UintLaws
+pub mod NibbleLaws
+pub mod SlotLaws

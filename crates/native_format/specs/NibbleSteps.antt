@@ -28,6 +28,10 @@ pub record ReadsSlot (bytes : List ℕ) (list : Option (List SlotRef)) (at : ℕ
   pub within : after ≤ 2 * length bytes
   pub list_is : list ≡ option_map (λ slots. slot ∷ slots) (slots_behind slot (numbers_from bytes after))
 
+abbrev pub ReadsFirst : List ℕ → Option (List SlotRef) → ℕ → Option (SlotRef × ℕ) → Type 0
+ReadsFirst bytes list at None = list ≡ None
+ReadsFirst bytes list at (Some found) = ReadsSlot bytes list at found.0 found.1
+
 abbrev pub ReadsNext : List ℕ → Option (List SlotRef) → ℕ → Option Next → Type 0
 ReadsNext bytes list at None = list ≡ None
 ReadsNext bytes list at (Some next.End) = list ≡ Some []

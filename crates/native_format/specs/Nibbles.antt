@@ -11,13 +11,13 @@ use Rattle.native_format.specs.declared.nibbles.ListRefusal.TheVariants as refus
 -- the nibbles of bytes, the low one of each first
 unfoldable pub nibbles : List ℕ → List ℕ
 nibbles [] = []
-nibbles (b ∷ bytes) = b % 16 ∷ b / 16 ∷ nibbles bytes
+nibbles (b ∷ bytes) = (b % 16) ∷ (b / 16) ∷ nibbles bytes
 
 -- The whole numbers in a stream of nibbles. A nibble has three bits of a number, the highest first, and
 -- bit 3 says that more of the number follows. A number that the stream cuts off is none.
 unfoldable pub numbers_after : ℕ → List ℕ → List ℕ
 numbers_after high [] = []
-numbers_after high (n ∷ ns) = if nat_lt n 8 then 8 * high + n ∷ numbers_after 0 ns else numbers_after (8 * high + (n - 8)) ns
+numbers_after high (n ∷ ns) = if nat_lt n 8 then (8 * high + n) ∷ numbers_after 0 ns else numbers_after (8 * high + (n - 8)) ns
 
 abbrev pub numbers : List ℕ → List ℕ
 numbers ns = numbers_after 0 ns
@@ -28,7 +28,7 @@ numbers ns = numbers_after 0 ns
 unfoldable pub numbers_behind : SlotRef → List SlotRef → List ℕ
 numbers_behind last [] = 0 ∷ 0 ∷ []
 numbers_behind last (r ∷ rs) =
-    (if r.section == last.section then r.slot - last.slot ∷ [] else 0 ∷ r.section - last.section ∷ r.slot ∷ []) ++ numbers_behind r rs
+    (if r.section == last.section then (r.slot - last.slot) ∷ [] else 0 ∷ (r.section - last.section) ∷ r.slot ∷ []) ++ numbers_behind r rs
 
 -- the first section and slot as they are, and then the others
 unfoldable pub numbers_of : List SlotRef → List ℕ
@@ -98,13 +98,13 @@ GivesList (Err e) list = Refuses e list
 
 -- the fewest groups of a number: its octal digits, 8 added to each but the last
 unfoldable pub groups : ℕ → List ℕ
-groups v = map (λ d. 8 + d) (digits_of 8 (v / 8)) ++ v % 8 ∷ []
+groups v = map (λ d. 8 + d) (digits_of 8 (v / 8)) ++ (v % 8) ∷ []
 
 -- nibbles in bytes, the low one first; the rest of the last byte is 0
 unfoldable pub packed : List ℕ → List ℕ
 packed [] = []
 packed (low ∷ []) = low ∷ []
-packed (low ∷ high ∷ ns) = low + 16 * high ∷ packed ns
+packed (low ∷ high ∷ ns) = (low + 16 * high) ∷ packed ns
 
 abbrev pub list_bytes : List SlotRef → List ℕ
 list_bytes list = packed (flat_map groups (numbers_of list))

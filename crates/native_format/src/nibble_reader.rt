@@ -1,13 +1,23 @@
 //! The reader of nibble lists.
 
-ghost use Rattle.std.specs.Prelude.{◌≡◌, ◌≤◌, ◌^◌, List, Some, drop, length, IfOk, MatchOption};
+ghost use Rattle.std.specs.Prelude.{◌≡◌, ◌≤◌, ◌<◌, ◌^◌, ◌*◌, List, Some, slice_index, drop, length, IfOk, MatchOption};
 ghost use Rattle.std.specs.List.{AllByRecursion};
 ghost use Rattle.native_format.specs.declared.nibbles.SlotRef.{SlotRef as Slot};
-ghost use Rattle.native_format.specs.Nibbles.{BeginsWithList, FitsWords, GivesList, list_at, slots_behind, slots_of};
-ghost use Rattle.native_format.specs.NibbleSteps.{IsLost, ReadsNext, ReadsNumber, numbers_from};
+ghost use Rattle.native_format.specs.Nibbles.{BeginsWithList, FitsWords, GivesList, list_at, nibbles, slots_behind, slots_of};
+ghost use Rattle.native_format.specs.NibbleSteps.{IsLost, ReadsFirst, ReadsNext, ReadsNumber, numbers_from};
 
 use crate::nibbles::{ListRefusal, Next, SlotRef};
 use std::alloc::Global;
+
+fn nibble_at(bytes: &[u8], at: usize) -> u8
+    requires small { length bytes.now ≤ 2 ^ 31 }
+    requires within { at < 2 * length bytes.now }
+    ensures value { result ≡ slice_index (nibbles bytes.now) at }
+    ensures narrow { result < 16 }
+{
+    let byte = bytes[at / 2];
+    if at % 2 == 0 { byte % 16 } else { byte / 16 }
+}
 
 /// The number from a nibble on, and the place of the nibble after it.
 fn number_at(bytes: &[u8], start: usize) -> Option<(u32, usize)>
@@ -17,9 +27,8 @@ fn number_at(bytes: &[u8], start: usize) -> Option<(u32, usize)>
     let mut value: u64 = 0;
     let mut at = start;
     while at < 2 * bytes.len() {
-        let byte = bytes[at / 2];
-        let nibble = if at % 2 == 0 { byte % 16 } else { byte / 16 };
-        value = value * 8 + u64::from(nibble % 8);
+        let nibble = nibble_at(bytes, at);
+        value = value * 8 + (nibble % 8) as u64;
         at += 1;
         if value > 0xFFFF_FFFF {
             return None;
@@ -31,13 +40,13 @@ fn number_at(bytes: &[u8], start: usize) -> Option<(u32, usize)>
     None
 }
 
-fn first_slot(bytes: &[u8], start: usize) -> Option<Next>
+fn first_slot(bytes: &[u8], start: usize) -> Option<(SlotRef, usize)>
     requires { length bytes.now ≤ 2 ^ 31 }
-    ensures { ReadsNext bytes.now (slots_of (numbers_from bytes.now start)) start result }
+    ensures { ReadsFirst bytes.now (slots_of (numbers_from bytes.now start)) start result }
 {
     let (section, at) = number_at(bytes, start)?;
     let (slot, at) = number_at(bytes, at)?;
-    Some(Next::Slot(SlotRef { section, slot }, at))
+    Some((SlotRef { section, slot }, at))
 }
 
 fn next_slot(bytes: &[u8], start: usize, last: SlotRef) -> Option<Next>
@@ -63,15 +72,22 @@ fn list_from(alloc: Global, bytes: &[u8], at: u32) -> Result<Vec<SlotRef>, ListR
     requires { length bytes.now ≤ 2 ^ 31 }
     ensures { GivesList result (list_at bytes.now at) }
 {
+    let Some((first, mut place)) = first_slot(bytes, 2 * at as usize) else {
+        return Err(ListRefusal::Malformed);
+    };
     let mut list = Vec::new(alloc);
-    let mut next = first_slot(bytes, 2 * at as usize);
-    while let Some(Next::Slot(slot, after)) = next {
-        list.push(slot)?;
-        next = next_slot(bytes, after, slot);
-    }
-    match next {
-        Some(_) => Ok(list),
-        None => Err(ListRefusal::Malformed),
+    list.push(first)?;
+    let mut last = first;
+    'slots: loop {
+        match next_slot(bytes, place, last) {
+            None => return Err(ListRefusal::Malformed),
+            Some(Next::End) => return Ok(list),
+            Some(Next::Slot(slot, after)) => {
+                list.push(slot)?;
+                last = slot;
+                place = after;
+            }
+        }
     }
 }
 
