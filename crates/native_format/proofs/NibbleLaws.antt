@@ -1,11 +1,12 @@
 -- Nibbles of bytes, and the numbers in them.
-use Rattle.std.proofs.Common.{◌≡◌, ◌⊎◌, ℕ, zero, suc, ◌+◌, ◌*◌, ◌-◌, ◌/◌, ◌%◌, ◌^◌, ◌<◌, ◌≤◌, Bool, true, false, cond, eqb, ltb, leb, List, [], ◌∷◌, ◌++◌, length, get_or, map, take, drop, Option, Some, None, refl, sym, ap, subst, ◌∙◌, append_assoc, arith, inl, inr}
+use Rattle.std.proofs.Common.{◌≡◌, ℕ, zero, suc, ◌+◌, ◌*◌, ◌-◌, ◌/◌, ◌%◌, ◌^◌, ◌<◌, ◌≤◌, Bool, true, false, cond, eqb, List, [], ◌∷◌, ◌++◌, length, get_or, map, drop, Option, Some, None, refl, sym, ap, subst, ◌∙◌, append_assoc, arith, inl, inr}
+use Rattle.std.specs.Option.{IfSome, option_to_list}
 use Rattle.std.specs.List.{flat_map, AllByRecursion}
 use Rattle.std.specs.Int.Digits.{digits_of, number_from_digits_after, AllBelowBase}
 use Rattle.std.proofs.Math.Nat.{pow-suc, one-le-pow, le-mul_of_pos_right, mul-le-mul_left}
 use Rattle.std.proofs.lemmas.Bool.{eq-eqb, ne_eqb, lt-ltb, le-ltb, cases_lt}
-use Rattle.std.proofs.lemmas.List.{append-nil, length-append, length-map, drop_more, drop_all}
-use Rattle.std.proofs.lemmas.Int.Digits.{number_digits_of, all_below_base_digits_of, length-digits_of-le}
+use Rattle.std.proofs.lemmas.List.{append-nil, length-append, length-map, map-append, drop_more, drop_all}
+use Rattle.std.proofs.lemmas.Int.Digits.{number_digits_of, all_below_base_digits_of, length-digits_of-le, digits_of_step}
 use Rattle.native_format.specs.Nibbles.{nibbles, numbers_after, numbers, groups, packed}
 use Rattle.native_format.specs.NibbleSteps.{IsLost, ReadsNumber, numbers_from}
 
@@ -213,3 +214,37 @@ groups_alone v = ap numbers (sym (append-nil (groups v))) ∙ numbers_groups v [
 pub are_nibbles : (ns : List ℕ) → ((i : ℕ) → get_or ns i 0 < 16) → AreNibbles ns
 are_nibbles [] h = tt
 are_nibbles (n ∷ ns) h = (h 0, are_nibbles ns (λ i. h (suc i)))
+
+-- ---- the nibble writer: whole bytes, and perhaps one low nibble
+
+pub empty_writer : (bytes : List ℕ) → bytes ≡ [] → nibbles bytes ++ [] ≡ []
+unfolding nibbles
+empty_writer bytes e = rw e refl
+
+pub paired : (bytes new now : List ℕ) (half : Option ℕ) (low n : ℕ) → half ≡ Some low → IfSome half (λ k. k < 16) → n < 16 → new ≡ bytes ++ (low + 16 * n) ∷ []
+    → now ≡ nibbles bytes ++ option_to_list half → nibbles new ++ [] ≡ now ++ n ∷ []
+unfolding nibbles
+paired bytes new now half low n half-is narrow small new-is now-is =
+    let low_small : low < 16 = subst (λ (o : Option ℕ). IfSome o (λ k. k < 16)) half-is narrow in
+    let low-is : (low + 16 * n) % 16 ≡ low = omega arith in
+    let high-is : (low + 16 * n) / 16 ≡ n = omega arith in
+    let now-is' : now ≡ nibbles bytes ++ low ∷ [] = now-is ∙ ap (λ (o : Option ℕ). nibbles bytes ++ option_to_list o) half-is in
+    append-nil (nibbles new) ∙ ap nibbles new-is ∙ nibbles-append bytes ((low + 16 * n) ∷ []) ∙ rw (low-is, high-is, now-is', append_assoc) refl
+
+pub finished_half : (bytes new now : List ℕ) (half : Option ℕ) (low : ℕ) → half ≡ Some low → new ≡ bytes ++ low ∷ [] → now ≡ nibbles bytes ++ option_to_list half → new ≡ packed now
+unfolding packed
+finished_half bytes new now half low half-is new-is now-is =
+    new-is ∙ sym (ap packed (now-is ∙ ap (λ (o : Option ℕ). nibbles bytes ++ option_to_list o) half-is) ∙ packed_nibbles bytes (low ∷ []))
+
+pub finished_whole : (bytes now : List ℕ) (half : Option ℕ) → half ≡ None → now ≡ nibbles bytes ++ option_to_list half → bytes ≡ packed now
+unfolding packed
+finished_whole bytes now half half-is now-is =
+    sym (ap packed (now-is ∙ ap (λ (o : Option ℕ). nibbles bytes ++ option_to_list o) half-is) ∙ packed_nibbles bytes [] ∙ append-nil bytes)
+
+-- the octal digits of a number, with 8 added to each
+pub marked_step : (v : ℕ) → 0 < v → map (λ d. 8 + d) (digits_of 8 v) ≡ map (λ d. 8 + d) (digits_of 8 (v / 8)) ++ (8 + v % 8) ∷ []
+marked_step v some = ap (map (λ d. 8 + d)) (digits_of_step 8 v (omega arith) some) ∙ map-append (λ d. 8 + d) (digits_of 8 (v / 8)) ((v % 8) ∷ [])
+
+-- one piece put behind another
+pub both_put : (old mid new x y : List ℕ) → new ≡ mid ++ y → mid ≡ old ++ x → new ≡ old ++ (x ++ y)
+both_put old mid new x y p q = p ∙ ap (λ (l : List ℕ). l ++ y) q ∙ append_assoc old x y

@@ -1,15 +1,16 @@
 -- Lists of slots and the numbers that spell them.
-use Rattle.std.proofs.Common.{◌≡◌, ◌⊎◌, ℕ, zero, suc, ◌+◌, ◌*◌, ◌-◌, ◌^◌, ◌<◌, ◌≤◌, Bool, true, false, cond, eqb, ltb, ◌&&◌, List, [], ◌∷◌, ◌++◌, length, drop, Option, Some, None, Result, Ok, Err, refl, sym, ap, subst, ◌∙◌, append_assoc, arith, inl, inr}
+use Rattle.std.proofs.Common.{◌≡◌, ◌⊎◌, ℕ, zero, suc, ◌+◌, ◌*◌, ◌-◌, ◌^◌, ◌<◌, ◌≤◌, Bool, true, false, cond, eqb, ltb, List, [], ◌∷◌, ◌++◌, length, get_or, take, drop, Option, Some, None, Result, Ok, Err, refl, sym, ap, subst, ◌∙◌, append_assoc, arith, inl, inr}
 use Rattle.std.specs.Option.{option_map}
 use Rattle.std.specs.Result.{IfOk}
 use Rattle.std.specs.List.{flat_map, AllByRecursion}
 use Rattle.std.specs.Global.{Vec}
-use Rattle.std.proofs.lemmas.Bool.{eq-eqb, ne_eqb, lt-ltb, le-ltb, ltb-true, cases_lt, cases_Bool, and_parts, and_left, and_right}
-use Rattle.std.proofs.lemmas.List.{append-nil}
-use Rattle.std.proofs.lemmas.Option.{cond_some, none-some, same_Some}
+use Rattle.std.proofs.lemmas.Bool.{eq-eqb, ne_eqb, lt-ltb, le-ltb, ltb-true, and_parts, and_right}
+use Rattle.std.proofs.lemmas.List.{append-nil, drop_more, drop_all, take_rest}
+use Rattle.std.proofs.lemmas.Grind.{flat_map-append}
+use Rattle.std.proofs.lemmas.Option.{none-some, same_Some}
 use Rattle.native_format.specs.declared.nibbles.SlotRef.{SlotRef}
 use Rattle.native_format.specs.declared.nibbles.ListRefusal.{ListRefusal}
-use Rattle.native_format.specs.Nibbles.{nibbles, numbers, numbers_behind, numbers_of, Precedes, AscendFrom, IsSlotList, FitsWords, BeginsWithList, fits_words, with_first, at_slot, slots_behind, slots_of, list_at, GivesList, groups, packed, list_bytes}
+use Rattle.native_format.specs.Nibbles.{nibbles, numbers, numbers_between, numbers_behind, numbers_of, Precedes, AscendFrom, IsSlotList, FitsWords, BeginsWithList, fits_words, with_first, at_slot, slots_behind, slots_of, list_at, GivesList, groups, list_bytes}
 use Rattle.native_format.specs.NibbleSteps.{IsLost, ReadsSlot, numbers_from}
 use Rattle.native_format.proofs.NibbleLaws.{nibbles-append, nibbles-drop, nibbles_packed, numbers_written, written_are}
 
@@ -233,3 +234,48 @@ refused front others all none e = sym e ∙ ap (with_front front) none
 
 pub complete : (front : Slots) (others all : Option Slots) → others ≡ Some [] → with_front front others ≡ all → all ≡ Some front
 complete front others all ended e = sym e ∙ ap (with_front front) ended ∙ ap (λ (l : Slots). Some l) (append-nil front)
+
+-- ---- the loop of the writer
+
+pub in_order : (last : SlotRef) (list : Slots) (i : ℕ) (slot d : SlotRef) → i < length list → slot ≡ get_or list i d → AscendFrom last (drop i list) → Precedes last slot × AscendFrom slot (drop (i + 1) list)
+in_order last list i slot d lt is h =
+    let next : drop i list ≡ slot ∷ drop (i + 1) list = drop_more list i d lt ∙ ap (λ (r : SlotRef). r ∷ drop (i + 1) list) (sym is) in
+    subst (AscendFrom last) next h
+
+-- what was put, and what is put behind it, are all
+pub put_one : (old new all : List ℕ) (last : SlotRef) (list : Slots) (i : ℕ) (slot d : SlotRef) → i < length list → slot ≡ get_or list i d
+    → new ≡ old ++ flat_map groups (numbers_between last slot) → old ++ flat_map groups (numbers_behind last (drop i list)) ≡ all
+    → new ++ flat_map groups (numbers_behind slot (drop (i + 1) list)) ≡ all
+unfolding numbers_behind
+put_one old new all last list i slot d lt is new-is e =
+    let next : drop i list ≡ slot ∷ drop (i + 1) list = drop_more list i d lt ∙ ap (λ (r : SlotRef). r ∷ drop (i + 1) list) (sym is) in
+    let others = numbers_behind slot (drop (i + 1) list) in
+    let split : flat_map groups (numbers_behind last (drop i list)) ≡ flat_map groups (numbers_between last slot) ++ flat_map groups others = ap (λ (l : Slots). flat_map groups (numbers_behind last l)) next ∙ flat_map-append groups (numbers_between last slot) others in
+    ap (λ (l : List ℕ). l ++ flat_map groups others) new-is ∙ append_assoc old _ _ ∙ ap (λ (l : List ℕ). old ++ l) (sym split) ∙ e
+
+pub put_last : (old one new all : List ℕ) (last : SlotRef) (list : Slots) (i : ℕ) → length list ≤ i → one ≡ old ++ groups 0 → new ≡ one ++ groups 0
+    → old ++ flat_map groups (numbers_behind last (drop i list)) ≡ all → new ≡ all
+unfolding numbers_behind
+put_last old one new all last list i le one-is new-is e =
+    let nothing : drop i list ≡ [] = drop_all i list le in
+    new-is ∙ ap (λ (l : List ℕ). l ++ groups 0) one-is ∙ append_assoc old (groups 0) (groups 0) ∙ ap (λ (l : List ℕ). old ++ (groups 0 ++ l)) (sym (append-nil (groups 0))) ∙ ap (λ (l : Slots). old ++ flat_map groups (numbers_behind last l)) (sym nothing) ∙ e
+
+pub some_slot : (list : Slots) → IsSlotList list → 1 ≤ length list
+some_slot [] h = absurd h
+some_slot (r ∷ rs) h = omega arith
+
+pub first_and_others : (list : Slots) (first d : SlotRef) → first ≡ get_or list 0 d → IsSlotList list → list ≡ first ∷ drop 1 list
+first_and_others [] first d is h = absurd h
+first_and_others (r ∷ rs) first d is h = ap (λ (x : SlotRef). x ∷ rs) (sym is)
+
+pub others_ascend : (list : Slots) (first d : SlotRef) → first ≡ get_or list 0 d → IsSlotList list → AscendFrom first (drop 1 list)
+others_ascend list first d is h = subst IsSlotList (first_and_others list first d is h) h
+
+pub put_all : (list : Slots) (first d : SlotRef) (old one two new : List ℕ) → first ≡ get_or list 0 d → IsSlotList list
+    → one ≡ old ++ groups first.section → two ≡ one ++ groups first.slot → new ≡ two ++ flat_map groups (numbers_behind first (take (length list - 1) (drop 1 list)))
+    → new ≡ old ++ flat_map groups (numbers_of list)
+unfolding numbers_of
+put_all list first d old one two new is h one-is two-is new-is =
+    let rest = flat_map groups (numbers_behind first (drop 1 list)) in
+    let whole : old ++ flat_map groups (numbers_of (first ∷ drop 1 list)) ≡ old ++ flat_map groups (numbers_of list) = ap (λ (l : Slots). old ++ flat_map groups (numbers_of l)) (sym (first_and_others list first d is h)) in
+    new-is ∙ ap (λ (l : Slots). two ++ flat_map groups (numbers_behind first l)) (take_rest list 1) ∙ ap (λ (l : List ℕ). l ++ rest) two-is ∙ ap (λ (l : List ℕ). (l ++ groups first.slot) ++ rest) one-is ∙ simp append_assoc whole

@@ -1,12 +1,12 @@
 -- Native integers: what bytes begin with is spelled there, and nothing else is.
-use Rattle.std.proofs.Common.{◌≡◌, ◌⊎◌, ℕ, zero, suc, ◌+◌, ◌*◌, ◌-◌, ◌/◌, ◌%◌, ◌^◌, ◌<◌, ◌≤◌, Bool, true, false, cond, eqb, ltb, leb, List, [], ◌∷◌, ◌++◌, length, get_or, take, drop, Option, Some, None, refl, sym, ap, subst, ◌∙◌, append_assoc, arith, inl, inr}
-use Rattle.std.proofs.lemmas.Bool.{eq-eqb, eqb-true, eqb-false, ne_eqb, le-leb, leb-true, ltb-true, ltb-false, lt-ltb, le-ltb, cases_Bool, cond_both}
-use Rattle.std.proofs.lemmas.List.{append-nil, take_at, take-append-drop, length-append, length-take-le, length-drop, drop-append-le, drop-take, drop_all, get_or_append_left, get_or-take, get_or-drop}
-use Rattle.std.proofs.lemmas.Option.{cond_some, same_Some, some_pair_parts, none-some}
+use Rattle.std.proofs.Common.{◌≡◌, ℕ, zero, suc, ◌+◌, ◌*◌, ◌-◌, ◌/◌, ◌%◌, ◌^◌, ◌<◌, ◌≤◌, Bool, true, false, cond, eqb, ltb, leb, List, [], ◌∷◌, ◌++◌, length, get_or, take, drop, Option, Some, None, refl, sym, ap, ◌∙◌, arith, inl, inr}
+use Rattle.std.proofs.lemmas.Bool.{eq-eqb, eqb-true, eqb-false, ne_eqb, le-leb, leb-true, ltb-true, lt-ltb, cases_Bool}
+use Rattle.std.proofs.lemmas.List.{append-nil, take_at, take-append-drop, length-append, length-take-le, length-drop, drop-append-le, drop-take, drop_all, get_or_append_left, get_or-take}
+use Rattle.std.proofs.lemmas.Option.{cond_some, some_pair_parts, none-some}
 use Rattle.std.specs.Option.{option_map, IfSome}
-use Rattle.byteorder.specs.Endian.{little_number, little_from, little_bytes}
+use Rattle.byteorder.specs.Endian.{little_number, little_bytes}
 use Rattle.byteorder.specs.Numbers.{little_from-append, little_from-lt, little_number-reads_back, length-bytes_low_first, little_from-cons, little_from-take}
-use Rattle.native_format.specs.Uint.{IsShifted, IsLong, IsUint, IsUintBetween, short_uint, shifted, long, leading_uint, uint_at}
+use Rattle.native_format.specs.Uint.{IsShifted, IsUint, IsUintBetween, short_uint, shifted, long, leading_uint, uint_at}
 
 abbrev pub IsBytes : List ℕ → Type 0
 IsBytes bytes = (i : ℕ) → get_or bytes i 0 < 256

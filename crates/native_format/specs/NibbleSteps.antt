@@ -4,7 +4,7 @@ use Rattle.std.specs.Option.{option_map}
 use Rattle.native_format.specs.declared.nibbles.SlotRef.{SlotRef}
 use Rattle.native_format.specs.declared.nibbles.Next.{Next}
 use Rattle.native_format.specs.declared.nibbles.Next.TheVariants as next
-use Rattle.native_format.specs.Nibbles.{nibbles, numbers, slots_behind, slots_of, with_first}
+use Rattle.native_format.specs.Nibbles.{nibbles, numbers, slots_behind}
 
 -- the numbers from a nibble on
 abbrev pub numbers_from : List ℕ → ℕ → List ℕ

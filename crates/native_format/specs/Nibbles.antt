@@ -1,6 +1,6 @@
 -- Lists of import slots, as streams of nibbles (ReadyToRun File Format, "Fixups").
-use Rattle.std.specs.Prelude.{◌≡◌, ℕ, zero, suc, ◌+◌, ◌*◌, ◌-◌, ◌/◌, ◌%◌, ◌^◌, ◌<◌, ◌≤◌, ◌⊎◌, ◌==◌, ◌&&◌, Bool, List, [], ◌∷◌, ◌++◌, map, drop, Option, Some, None, Result, Ok, Err, nat_lt, if◌then◌else◌}
-use Rattle.std.specs.List.{flat_map, AllByRecursion}
+use Rattle.std.specs.Prelude.{◌≡◌, ℕ, zero, suc, ◌+◌, ◌*◌, ◌-◌, ◌/◌, ◌%◌, ◌^◌, ◌<◌, ◌⊎◌, ◌==◌, ◌&&◌, Bool, List, [], ◌∷◌, ◌++◌, map, drop, Option, Some, None, Result, Ok, Err, nat_lt, if◌then◌else◌}
+use Rattle.std.specs.List.{flat_map}
 use Rattle.std.specs.Option.{option_map}
 use Rattle.std.specs.Int.Digits.{digits_of}
 use Rattle.std.specs.Global.{Vec}
@@ -22,13 +22,16 @@ numbers_after high (n ∷ ns) = if nat_lt n 8 then (8 * high + n) ∷ numbers_af
 abbrev pub numbers : List ℕ → List ℕ
 numbers ns = numbers_after 0 ns
 
--- The numbers that spell a list, from behind one of its slots on: within a section how far the next slot
--- is above the last one, and then 0; how far the next section is above the last one, and its first slot;
--- at the end 0 in a section's place.
+-- The numbers between a slot and the next: in one section how far the next slot is above the last one;
+-- else 0, how far the next section is above the last one, and its first slot.
+abbrev pub numbers_between : SlotRef → SlotRef → List ℕ
+numbers_between last next =
+    if next.section == last.section then (next.slot - last.slot) ∷ [] else 0 ∷ (next.section - last.section) ∷ next.slot ∷ []
+
+-- the numbers behind a slot; the list ends with 0 for the next slot and 0 for the next section
 unfoldable pub numbers_behind : SlotRef → List SlotRef → List ℕ
 numbers_behind last [] = 0 ∷ 0 ∷ []
-numbers_behind last (r ∷ rs) =
-    (if r.section == last.section then (r.slot - last.slot) ∷ [] else 0 ∷ (r.section - last.section) ∷ r.slot ∷ []) ++ numbers_behind r rs
+numbers_behind last (next ∷ others) = numbers_between last next ++ numbers_behind next others
 
 -- the first section and slot as they are, and then the others
 unfoldable pub numbers_of : List SlotRef → List ℕ

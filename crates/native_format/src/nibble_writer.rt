@@ -4,7 +4,7 @@ ghost use Rattle.std.specs.Prelude.{◌≡◌, ◌*◌, ◌+◌, ◌<◌, ◌≤
 ghost use Rattle.std.specs.List.{flat_map};
 ghost use Rattle.std.specs.Option.{option_to_list};
 ghost use Rattle.std.specs.Int.Digits.{digits_of};
-ghost use Rattle.native_format.specs.Nibbles.{AscendFrom, BeginsWithList, IsSlotList, groups, list_bytes, nibbles, numbers, numbers_behind, packed};
+ghost use Rattle.native_format.specs.Nibbles.{AscendFrom, BeginsWithList, IsSlotList, groups, list_bytes, nibbles, numbers, numbers_behind, numbers_between, numbers_of, packed, Precedes};
 
 use crate::nibbles::SlotRef;
 use rtr_bytes::NoMemory;
@@ -61,7 +61,8 @@ impl NibbleWriter {
         ensures { OnOk result (self.new ≡ self.old ++ groups value) }
     {
         self.put_marked(value / 8)?;
-        self.put((value % 8) as u8)
+        self.put((value % 8) as u8)?;
+        Ok(())
     }
 
     fn finish(self) -> Result<Vec<u8>, NoMemory>
@@ -75,23 +76,43 @@ impl NibbleWriter {
     }
 }
 
+fn put_next(out: &mut NibbleWriter, last: SlotRef, next: SlotRef) -> Result<(), NoMemory>
+    requires { Precedes last next }
+    ensures { OnOk result (out.new ≡ out.old ++ flat_map groups (numbers_between last next)) }
+{
+    if next.section == last.section {
+        out.put_number(next.slot - last.slot)?;
+    } else {
+        out.put_number(0)?;
+        out.put_number(next.section - last.section)?;
+        out.put_number(next.slot)?;
+    }
+    Ok(())
+}
+
 fn put_behind(out: &mut NibbleWriter, first: SlotRef, others: &[SlotRef]) -> Result<(), NoMemory>
     requires { AscendFrom first others.now }
     ensures { OnOk result (out.new ≡ out.old ++ flat_map groups (numbers_behind first others.now)) }
 {
     let mut last = first;
     for slot in others {
-        if slot.section == last.section {
-            out.put_number(slot.slot - last.slot)?;
-        } else {
-            out.put_number(0)?;
-            out.put_number(slot.section - last.section)?;
-            out.put_number(slot.slot)?;
-        }
+        put_next(out, last, *slot)?;
         last = *slot;
     }
     out.put_number(0)?;
-    out.put_number(0)
+    out.put_number(0)?;
+    Ok(())
+}
+
+fn put_list(out: &mut NibbleWriter, list: &[SlotRef]) -> Result<(), NoMemory>
+    requires { IsSlotList list.now }
+    ensures { OnOk result (out.new ≡ out.old ++ flat_map groups (numbers_of list.now)) }
+{
+    let first = list[0];
+    out.put_number(first.section)?;
+    out.put_number(first.slot)?;
+    put_behind(out, first, &list[1..])?;
+    Ok(())
 }
 
 /// The spelling of a list of slots in the fewest nibbles; the rest of the last byte is 0.
@@ -102,12 +123,8 @@ pub fn write_nibbles(alloc: Global, list: &[SlotRef]) -> Result<Vec<u8>, NoMemor
     ensures spells { IfOk result (λ v. (rest : List ℕ) → BeginsWithList (v.items ++ rest) list.now) }
 {
     let mut out = NibbleWriter::new(alloc);
-    if let [first, others @ ..] = list {
-        out.put_number(first.section)?;
-        out.put_number(first.slot)?;
-        put_behind(&mut out, *first, others)?;
-    }
-    out.finish()
+    put_list(&mut out, list)?;
+    Ok(out.finish()?)
 }
 
 /// No groups that spell a number are fewer than those that are written.

@@ -1,7 +1,5 @@
 use Rattle.std.proofs.Common.{sym, ap, ◌∙◌, ◌++◌, ◌∷◌, []}
-use Rattle.native_format.specs.Nibbles.{list_at, slots_behind}
-use Rattle.native_format.specs.NibbleSteps.{numbers_from}
-use Rattle.native_format.proofs.SlotLaws.{list_from_nibble, starts, more, refused, complete}
+use Rattle.native_format.proofs.SlotLaws.{list_from_nibble, starts}
 use Rattle.native_format.proofs.nibble_reader.list_from.Goals as goal
 
 pub returns-in_default : goal.returns-in_default

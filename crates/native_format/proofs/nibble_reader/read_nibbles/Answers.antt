@@ -1,4 +1,4 @@
-use Rattle.std.proofs.Common.{subst, Some}
+use Rattle.std.proofs.Common.{subst}
 use Rattle.native_format.specs.Nibbles.{GivesList}
 use Rattle.native_format.proofs.SlotLaws.{is_found, is_read}
 use Rattle.native_format.proofs.nibble_reader.read_nibbles.Goals as goal

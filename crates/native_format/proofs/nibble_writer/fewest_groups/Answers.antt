@@ -1,4 +1,3 @@
-use Rattle.std.proofs.Common.{arith}
 use Rattle.native_format.proofs.NibbleLaws.{groups_alone, fewest, are_nibbles}
 use Rattle.native_format.proofs.nibble_writer.fewest_groups.Goals as goal
 

@@ -1,4 +1,4 @@
-use Rattle.std.proofs.Common.{◌≡◌, Some, ◌∙◌}
+use Rattle.std.proofs.Common.{◌∙◌}
 use Rattle.native_format.proofs.UintLaws.{is_found, uint_at_of}
 use Rattle.native_format.proofs.uint.read_uint.Goals as goal
 
