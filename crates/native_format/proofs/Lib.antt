@@ -1,3 +1,4 @@
 pub mod UintLaws
 pub mod NibbleLaws
 pub mod SlotLaws
+pub mod SparseLaws

@@ -1,7 +1,7 @@
 -- Native integers: what bytes begin with is spelled there, and nothing else is.
 use Rattle.std.proofs.Common.{◌≡◌, ℕ, zero, suc, ◌+◌, ◌*◌, ◌-◌, ◌/◌, ◌%◌, ◌^◌, ◌<◌, ◌≤◌, Bool, true, false, cond, eqb, ltb, leb, List, [], ◌∷◌, ◌++◌, length, get_or, take, drop, Option, Some, None, refl, sym, ap, ◌∙◌, arith, inl, inr}
-use Rattle.std.proofs.lemmas.Bool.{eq-eqb, eqb-true, eqb-false, ne_eqb, le-leb, leb-true, ltb-true, lt-ltb, cases_Bool}
-use Rattle.std.proofs.lemmas.List.{append-nil, take_at, take-append-drop, length-append, length-take-le, length-drop, drop-append-le, drop-take, drop_all, get_or_append_left, get_or-take}
+use Rattle.std.proofs.lemmas.Bool.{eq-eqb, eqb-true, eqb-false, ne_eqb, le-leb, leb-true, ltb-true, lt-ltb, cases_Bool, cases_lt}
+use Rattle.std.proofs.lemmas.List.{append-nil, take_at, take-append-drop, length-append, length-take-le, length-drop, drop-append-le, drop-take, drop_all, get_or_append_left, get_or-take, get_or-drop, get_or_past, length-take, take_rest}
 use Rattle.std.proofs.lemmas.Option.{cond_some, some_pair_parts, none-some}
 use Rattle.std.specs.Option.{option_map, IfSome}
 use Rattle.byteorder.specs.Endian.{little_number, little_bytes}
@@ -260,3 +260,23 @@ word_fits (suc (suc (suc (suc (suc n))))) bytes h fits = absurd (omega arith)
 pub uint_at_past : (bytes : List ℕ) (at : ℕ) → length bytes ≤ at → uint_at bytes at ≡ None
 unfolding uint_at leading_uint
 uint_at_past bytes at h = rw (drop_all at bytes h) refl
+
+-- a number in the bytes from a place on
+pub word_from : (n at w : ℕ) (bytes : List ℕ) → n ≤ 4 → IsBytes bytes → w ≡ little_number n (take (length bytes - at) (drop at bytes)) → w < 2 ^ 32
+word_from n at w bytes h fits is = rw (is, take_rest) (word_fits n (drop at bytes) h (λ i. rw get_or-drop (fits (at + i))))
+
+pub uint_small : (bytes : List ℕ) (at v next : ℕ) → IsBytes bytes → Some (v, next) ≡ uint_at bytes at → v < 2 ^ 32
+uint_small bytes at v next fits e =
+    let p = uint_at_is bytes at v next (sym e) in
+    small (take p.0 (drop at bytes)) (taken p.0) (p.2).spelled where
+  taken : (n : ℕ) → IsBytes (take n (drop at bytes))
+  taken n i = elim (cases_lt i n) [
+      | inl lt ↦ rw (get_or-take n (drop at bytes) i 0 lt, get_or-drop) (fits (at + i))
+      | inr le ↦ rw (get_or_past (take n (drop at bytes)) i 0 (omega (arith, length-take n (drop at bytes)))) (omega arith)
+    ]
+  small : (s : List ℕ) → IsBytes s → IsUint v s → v < 2 ^ 32
+  small s b (inl h) = omega (arith, shifted_below 1 0 v s b h)
+  small s b (inr (inl h)) = omega (arith, shifted_below 2 1 v s b h)
+  small s b (inr (inr (inl h))) = omega (arith, shifted_below 3 3 v s b h)
+  small s b (inr (inr (inr (inl h)))) = omega (arith, shifted_below 4 7 v s b h)
+  small s b (inr (inr (inr (inr h)))) = omega (arith, h.2, little_from-lt 0 4 (drop 1 s) (λ i. rw get_or-drop (b (1 + i))))

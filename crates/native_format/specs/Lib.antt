@@ -1,3 +1,4 @@
 pub mod Uint
 pub mod Nibbles
 pub mod NibbleSteps
+pub mod Sparse

@@ -6,11 +6,14 @@
 mod nibble_reader;
 mod nibble_writer;
 mod nibbles;
+mod sparse;
+mod sparse_reader;
 mod uint;
 
 pub use nibble_reader::read_nibbles;
 pub use nibble_writer::{fewest_groups, write_nibbles};
 pub use nibbles::{ListRefusal, SlotRef};
+pub use sparse_reader::SparseArray;
 pub use uint::{no_spelling_begins_another, read_uint, shortest_spelling, write_uint};
 
 #[cfg(test)]

@@ -1,4 +1,5 @@
 use super::*;
+use rtr_bytes::Fault;
 use std::test::Fail;
 
 const ONE: [u8; 1] = [0x18];
@@ -49,5 +50,27 @@ fn slot_lists(rt: HostRuntime) -> Result<(), Fail> {
     }
     let zeros = read_nibbles(rt.alloc(), &[0xFF, 0x98, 0x00, 0x00], 1).ok().ok_or("memory")?;
     assert_eq!(rt; zeros.as_slice(), [at(8, 0)].as_slice());
+    Ok(())
+}
+
+#[test]
+fn sparse_arrays_read(rt: HostRuntime) -> Result<(), Fail> {
+    let one = SparseArray::read(&[0x08, 0x01, 0x00, 0x0C], 0).ok().ok_or("one")?;
+    assert_eq!(rt; one.count(), 1);
+    assert_eq!(rt; one.get(0).ok(), Some(Some(3)));
+    assert_eq!(rt; one.get(1).ok(), Some(None));
+    let two = SparseArray::read(&[0x88, 0x02, 0x03, 0x80, 0x00, 0x08], 0).ok().ok_or("two")?;
+    assert_eq!(rt; two.count(), 17);
+    assert_eq!(rt; two.get(16).ok(), Some(Some(5)));
+    assert_eq!(rt; two.get(0).ok(), Some(None));
+    assert_eq!(rt; two.get(17).ok(), Some(None));
+    assert_eq!(rt; SparseArray::read(&[], 0).err(), Some(Fault { check: 63, place: 0 }));
+    assert_eq!(rt; SparseArray::read(&[0x0E, 0, 0, 0, 0], 0).err(), Some(Fault { check: 63, place: 0 }));
+    assert_eq!(rt; SparseArray::read(&[0xFF, 0xFF, 0xFF, 0xFF, 0xFC], 0).err(), Some(Fault { check: 63, place: 0 }));
+    // An entry that names the end is within, and its node is cut there; one further it names a place outside.
+    let cut = SparseArray::read(&[0x08, 0x01], 0).ok().ok_or("cut")?;
+    assert_eq!(rt; cut.get(0).err(), Some(Fault { check: 64, place: 2 }));
+    let outside = SparseArray::read(&[0x08, 0x02], 0).ok().ok_or("outside")?;
+    assert_eq!(rt; outside.get(0).err(), Some(Fault { check: 64, place: 1 }));
     Ok(())
 }
