@@ -2,3 +2,5 @@ pub mod UintLaws
 pub mod NibbleLaws
 pub mod SlotLaws
 pub mod SparseLaws
+pub mod TreeLaws
+pub mod SparseWritten

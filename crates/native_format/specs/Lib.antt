@@ -2,3 +2,4 @@ pub mod Uint
 pub mod Nibbles
 pub mod NibbleSteps
 pub mod Sparse
+pub mod SparseBytes

@@ -1,4 +1,6 @@
-//! What the reader of sparse arrays asks of a node.
+//! Elements of sparse arrays, and what is asked of a node.
+
+use rtr_bytes::Sequence;
 
 /// Where a node of a block's tree leads.
 #[derive(Clone, Copy)]
@@ -9,4 +11,13 @@ pub(crate) enum Step {
     Content(u32),
     /// Nowhere.
     Absent,
+}
+
+/// An element of a sparse array that is written.
+#[derive(Debug, Drop)]
+pub struct Element {
+    /// Its index, below the array's count.
+    pub index: u32,
+    /// Its content, byte for byte.
+    pub content: Sequence<u8>,
 }

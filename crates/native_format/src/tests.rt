@@ -1,5 +1,6 @@
 use super::*;
-use rtr_bytes::Fault;
+use rtr_bytes::{Fault, Sequence};
+use std::alloc::{AllocError, Global};
 use std::test::Fail;
 
 const ONE: [u8; 1] = [0x18];
@@ -72,5 +73,19 @@ fn sparse_arrays_read(rt: HostRuntime) -> Result<(), Fail> {
     assert_eq!(rt; cut.get(0).err(), Some(Fault { check: 64, place: 2 }));
     let outside = SparseArray::read(&[0x08, 0x02], 0).ok().ok_or("outside")?;
     assert_eq!(rt; outside.get(0).err(), Some(Fault { check: 64, place: 1 }));
+    Ok(())
+}
+
+fn element(alloc: Global, index: u32, content: &[u8]) -> Result<Element, AllocError> {
+    let content = Sequence::from_vec(content.to_vec(alloc)?);
+    Ok(Element { index, content })
+}
+
+#[test]
+fn sparse_arrays_written(rt: HostRuntime) -> Result<(), Fail> {
+    let alloc = rt.alloc();
+    let one = vec![in alloc; element(alloc, 0, &[0x0C])?]?;
+    let bytes = write_sparse(alloc, 1, one.as_slice()).ok().ok_or("memory")?;
+    assert_eq!(rt; bytes.as_slice(), [0x0C, 4, 0, 0, 0, 2, 2, 2, 2, 0x0C].as_slice());
     Ok(())
 }
