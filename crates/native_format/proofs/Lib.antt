@@ -4,3 +4,4 @@ pub mod SlotLaws
 pub mod SparseLaws
 pub mod TreeLaws
 pub mod SparseWritten
+pub mod WriterParts

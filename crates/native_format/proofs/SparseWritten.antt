@@ -1,8 +1,10 @@
 -- What the writer of sparse arrays lays out holds exactly the elements.
-use Rattle.std.proofs.Common.{◌≡◌, ℕ, zero, suc, ◌+◌, ◌*◌, ◌-◌, ◌/◌, ◌%◌, ◌^◌, ◌<◌, ◌≤◌, Bool, true, false, cond, eqb, ltb, leb, List, [], ◌∷◌, ◌++◌, length, map, get_or, take, drop, Option, Some, None, Ok, refl, sym, ap, subst, ◌∙◌, append_assoc, arith, inl, inr}
+use Rattle.std.proofs.Common.{◌≡◌, ℕ, zero, suc, ◌+◌, ◌*◌, ◌-◌, ◌/◌, ◌%◌, ◌^◌, ◌<◌, ◌≤◌, Bool, true, false, cond, eqb, ltb, leb, List, [], ◌∷◌, ◌++◌, length, map, get_or, set, take, drop, Option, Some, None, Ok, refl, sym, ap, subst, ◌∙◌, append_assoc, arith, inl, inr}
+use denote.Ref.{Bor}
+use Rattle.std.specs.Option.{option_copied}
 use Rattle.std.specs.List.{range_with_len, flat_map, slice_get}
-use Rattle.std.proofs.lemmas.Bool.{le-leb, lt-ltb, le-ltb, eq-eqb, ne_eqb, cases_lt}
-use Rattle.std.proofs.lemmas.List.{append-nil, length-append, drop_at, drop_more, take-append-drop}
+use Rattle.std.proofs.lemmas.Bool.{le-leb, lt-ltb, le-ltb, eq-eqb, ne_eqb, cases_lt, cases_eq}
+use Rattle.std.proofs.lemmas.List.{append-nil, length-append, drop_at, drop_more, take-append-drop, length-map, get_or-map, ext_get_or, get_or-set_same, get_or-set_other}
 use Rattle.std.proofs.lemmas.List.FromFn.{get_or-map-range_with_len, length-map-range_with_len}
 use Rattle.std.proofs.lemmas.Option.{none-some, same_Some}
 use Rattle.std.proofs.lemmas.Grind.{flat_map-append}
@@ -12,7 +14,7 @@ use Rattle.rtr_bytes.specs.Field.{field_at}
 use Rattle.native_format.specs.declared.sparse.Element.{Element}
 use Rattle.native_format.specs.Uint.{short_uint, uint_at}
 use Rattle.native_format.specs.Sparse.{Array, Answer, array_of, array_at, blocks_of, in_block, entry_place, element_of, path, weights}
-use Rattle.native_format.specs.SparseBytes.{AreElements, content_of, StandsAt, Finds, HoldsElements, slots_from, block_bytes, block, blocks, joined, index_bytes, sparse_bytes}
+use Rattle.native_format.specs.SparseBytes.{AreElements, content_of, StandsAt, Finds, HoldsElements, slots_from, block_bytes, block, blocks, joined, index_bytes, sparse_bytes, contents, SameFrom}
 use Rattle.native_format.proofs.TreeLaws.{uint_written, block_path, carried}
 
 abbrev Elements : Type 0
@@ -103,6 +105,7 @@ block_is : (es : Elements) (n k : ℕ) → k < n → get_or (blocks es n) k [] �
 block_is es n k lt = get_or-map-range_with_len (block es) 0 n k k [] lt (omega arith)
 
 slot_of : (es : Elements) (i : ℕ) → get_or (slots_from es (16 * (i / 16)) 16) (i % 16) None ≡ content_of es i
+unfolding slots_from
 slot_of es i = get_or-map-range_with_len (content_of es) (16 * (i / 16)) 16 (i % 16) i None (omega arith) (omega arith)
 
 -- ---- the whole
@@ -191,3 +194,46 @@ holds count es rest are small =
       count_is = refl;
       each = each;
     }
+
+-- ---- the slots of a block, one after the other
+
+pub behind_found : (es : Elements) (i : ℕ) (c : List ℕ) → AreElements i (2 ^ 32) es → Some c ≡ content_of es i → (1 ≤ length es) × AreElements (i + 1) (2 ^ 32) (drop 1 es) × SameFrom (i + 1) es (drop 1 es)
+unfolding content_of
+behind_found [] i c are e = absurd (none-some c (sym e))
+behind_found (x ∷ es) i c are e =
+    elim (cases_eq x.index i) [
+      | inl same ↦
+        let next : x.index + 1 ≡ i + 1 = omega arith in
+        (omega arith, subst (λ (n : ℕ). AreElements n (2 ^ 32) es) next are.2, λ k le. let apart : x.index ≡ k → ⊥ = λ q. omega (arith, q) in sym (rw (ne_eqb _ _ apart) refl))
+      | inr other ↦
+        let later : i < x.index + 1 = omega (arith, are.0) in
+        absurd (none-some c (sym (e ∙ rw (ne_eqb _ _ other) (absent_below es (x.index + 1) (2 ^ 32) i are.2 later))))
+    ]
+
+pub behind_none : (es : Elements) (i : ℕ) → AreElements i (2 ^ 32) es → None ≡ content_of es i → AreElements (i + 1) (2 ^ 32) es
+unfolding content_of
+behind_none [] i are e = tt
+behind_none (x ∷ es) i are e =
+    elim (cases_eq x.index i) [
+      | inl same ↦ absurd (none-some x.content (e ∙ rw (eq-eqb _ _ same) refl))
+      | inr other ↦ (omega (arith, are.0, other), are.1, are.2)
+    ]
+
+pub all_slots : (xs : List (Option (Bor (List ℕ)))) (es : Elements) (first n : ℕ) → length xs ≡ n → ((k : ℕ) → k < n → option_copied (get_or xs k None) ≡ content_of es (first + k)) → contents xs ≡ slots_from es first n
+unfolding slots_from
+all_slots xs es first n len each =
+    ext_get_or None (contents xs) (map (content_of es) (range_with_len first n)) (length-map xs option_copied ∙ len ∙ sym (length-map-range_with_len (content_of es) first n))
+      (λ k lt. let k_lt : k < n = omega (arith, length-map xs option_copied) in
+        get_or-map option_copied xs k None None (omega arith) ∙ each k k_lt ∙ sym (get_or-map-range_with_len (content_of es) first n k (first + k) None k_lt refl))
+
+pub set_slot : (xs : List (Option (Bor (List ℕ)))) (es rest : Elements) (first i : ℕ) (slot : Option (Bor (List ℕ))) → i < length xs → option_copied slot ≡ content_of rest (first + i)
+    → SameFrom (first + i) es rest → ((k : ℕ) → k < i → option_copied (get_or xs k None) ≡ content_of es (first + k))
+    → (k : ℕ) → k < i + 1 → option_copied (get_or (set xs i slot) k None) ≡ content_of es (first + k)
+set_slot xs es rest first i slot lt slot-is same before k k_lt =
+    elim (cases_eq k i) [
+      | inl at ↦ ap (λ (n : ℕ). option_copied (get_or (set xs i slot) n None)) at ∙ ap option_copied (get_or-set_same xs i slot None lt) ∙ slot-is ∙ same (first + i) (omega arith) ∙ ap (λ (n : ℕ). content_of es (first + n)) (sym at)
+      | inr other ↦ ap option_copied (get_or-set_other xs i k slot None other) ∙ before k (omega (arith, other))
+    ]
+
+pub same_on : (es rest behind : Elements) (m n : ℕ) → m ≤ n → SameFrom m es rest → SameFrom n rest behind → SameFrom n es behind
+same_on es rest behind m n le p q k k_le = q k k_le ∙ p k (omega arith)

@@ -4,7 +4,7 @@ ghost use Rattle.std.specs.Prelude.{◌≡◌, ◌≤◌, ◌<◌, ◌^◌, ◌+
 ghost use Rattle.std.specs.Option.{option_copied, option_map};
 ghost use Rattle.native_format.specs.Uint.{short_uint};
 ghost use Rattle.native_format.specs.Sparse.{weights};
-ghost use Rattle.native_format.specs.SparseBytes.{AreElements, AreSlots, HoldsElements, IsSmall, block_bytes, content_of, fork_number, slots_from, sparse_bytes, tree};
+ghost use Rattle.native_format.specs.SparseBytes.{AreElements, AreSlots, HoldsElements, SameFrom, IsSmall, IsShort, block_bytes, content_of, contents, head_of_node, length_of_node, fork_number, slots_from, sparse_bytes, tree};
 
 use crate::sparse::Element;
 use crate::uint::write_uint;
@@ -53,53 +53,72 @@ fn fork_of(low: u32) -> u32
     }
 }
 
-/// How many bytes the tree over these slots has.
-fn tree_len(lower: &[usize], slots: &[Slot<'_>]) -> Option<u32>
-    requires wide { AreSlots lower.now (length slots.now) }
-    requires small { IsSmall (tree lower.now (map option_copied slots.now)) }
-    ensures { result ≡ option_map length (tree lower.now (map option_copied slots.now)) }
+/// How many bytes a node has with the trees below it, by how many each of them has.
+fn node_len(low: Option<u32>, high: Option<u32>) -> Option<u32>
+    requires { IsShort (length_of_node low high) }
+    ensures { result ≡ length_of_node low high }
 {
-    let (weight, lower) = match lower {
-        [] => return slots[0].map(|content| content.len() as u32),
-        [weight, lower @ ..] => (*weight, lower),
-    };
-    let low = tree_len(lower, &slots[..weight]);
-    let high = tree_len(lower, &slots[weight..]);
     match (low, high) {
         (None, None) => None,
-        (Some(len), None) | (None, Some(len)) => Some(1 + len),
-        (Some(low), Some(high)) => Some(short_size(fork_of(low)) + low + high),
+        (Some(low), None) => Some(1 + low),
+        (None, Some(high)) => Some(1 + high),
+        (Some(low), Some(high)) => Some(short_size(fork_of(low)) + (low + high)),
     }
+}
+
+/// How many bytes the tree over these slots has. The weights are those of the bits that are left.
+fn tree_len(lower: &[usize], slots: &[Slot<'_>]) -> Option<u32>
+    requires wide { AreSlots lower.now (length slots.now) }
+    requires small { IsSmall (tree lower.now (contents slots.now)) }
+    ensures { result ≡ option_map length (tree lower.now (contents slots.now)) }
+{
+    let [weight, lower @ ..] = lower else {
+        return content_len(slots[0]);
+    };
+    let low = tree_len(lower, &slots[..*weight]);
+    let high = tree_len(lower, &slots[*weight..]);
+    node_len(low, high)
+}
+
+fn content_len(slot: Slot<'_>) -> Option<u32>
+    requires { IsSmall (option_copied slot) }
+    ensures { result ≡ option_map length (option_copied slot.entry) }
+{
+    match slot {
+        None => None,
+        Some(content) => Some(content.len() as u32),
+    }
+}
+
+/// Appends the number of a node with the trees below it, by how many bytes each of them has.
+fn put_node(out: &mut Vec<u8>, low: Option<u32>, high: Option<u32>) -> Result<(), NoMemory>
+    requires { IsShort (length_of_node low high) }
+    ensures { OnOk result (out.new.items ≡ out.old.items ++ head_of_node low high) }
+{
+    match (low, high) {
+        (None, None) => {}
+        (Some(_), None) => write_uint(out, 1)?,
+        (None, Some(_)) => write_uint(out, 6)?,
+        (Some(len), Some(_)) => write_uint(out, fork_of(len))?,
+    }
+    Ok(())
 }
 
 /// Appends the tree over these slots, or nothing where no slot has a content.
 fn put_tree(out: &mut Vec<u8>, lower: &[usize], slots: &[Slot<'_>]) -> Result<(), NoMemory>
     requires wide { AreSlots lower.now (length slots.now) }
-    requires small { IsSmall (tree lower.now (map option_copied slots.now)) }
-    ensures { OnOk result (out.new.items ≡ out.old.items ++ unwrap_or (tree lower.now (map option_copied slots.now)) []) }
+    requires small { IsSmall (tree lower.now (contents slots.now)) }
+    ensures { OnOk result (out.new.items ≡ out.old.items ++ unwrap_or (tree lower.now (contents slots.now)) []) }
 {
-    let (weight, lower) = match lower {
-        [] => return put_content(out, slots[0]),
-        [weight, lower @ ..] => (*weight, lower),
+    let [weight, lower @ ..] = lower else {
+        put_content(out, slots[0])?;
+        return Ok(());
     };
-    let low = &slots[..weight];
-    let high = &slots[weight..];
-    match (tree_len(lower, low), tree_len(lower, high)) {
-        (None, None) => {}
-        (Some(_), None) => {
-            write_uint(out, 1)?;
-            put_tree(out, lower, low)?;
-        }
-        (None, Some(_)) => {
-            write_uint(out, 6)?;
-            put_tree(out, lower, high)?;
-        }
-        (Some(len), Some(_)) => {
-            write_uint(out, fork_of(len))?;
-            put_tree(out, lower, low)?;
-            put_tree(out, lower, high)?;
-        }
-    }
+    let low = &slots[..*weight];
+    let high = &slots[*weight..];
+    put_node(out, tree_len(lower, low), tree_len(lower, high))?;
+    put_tree(out, lower, low)?;
+    put_tree(out, lower, high)?;
     Ok(())
 }
 
@@ -114,8 +133,8 @@ fn put_content(out: &mut Vec<u8>, slot: Slot<'_>) -> Result<(), NoMemory>
 
 fn put_block(out: &mut Vec<u8>, slots: &[Slot<'_>]) -> Result<(), NoMemory>
     requires wide { length slots.now ≡ 16 }
-    requires small { IsSmall (tree weights (map option_copied slots.now)) }
-    ensures { OnOk result (out.new.items ≡ out.old.items ++ block_bytes (map option_copied slots.now)) }
+    requires small { IsSmall (tree weights (contents slots.now)) }
+    ensures { OnOk result (out.new.items ≡ out.old.items ++ block_bytes (contents slots.now)) }
 {
     match tree_len(&WEIGHTS, slots) {
         None => write_uint(out, 64)?,
@@ -137,22 +156,33 @@ fn first_slot(elements: &[Element], index: u32) -> Slot<'_>
     }
 }
 
+/// The slot of an index, and the elements behind it.
+fn next_slot(elements: &[Element], index: u32) -> (Slot<'_>, &[Element])
+    requires { AreElements index (2 ^ 32) elements.now }
+    ensures slot { option_copied result.0 ≡ content_of elements.now index }
+    ensures elements { AreElements (index + 1) (2 ^ 32) result.1.now }
+    ensures others { SameFrom (index + 1) elements.now result.1.now }
+{
+    match first_slot(elements, index) {
+        Some(content) => (Some(content), elements.split_at(1).1),
+        None => (None, elements),
+    }
+}
+
 /// The slots of sixteen indexes from a first one on, and the elements behind them.
 fn block_slots(elements: &[Element], first: u32) -> ([Slot<'_>; 16], &[Element])
     requires elements { AreElements first (2 ^ 32) elements.now }
     requires room { first + 16 < 2 ^ 32 }
-    ensures slots { map option_copied result.0 ≡ slots_from elements.now first 16 }
+    ensures slots { contents result.0 ≡ slots_from elements.now first 16 }
     ensures elements { AreElements (first + 16) (2 ^ 32) result.1.now }
-    ensures others { (index : ℕ) → first + 16 ≤ index → content_of result.1.now index ≡ content_of elements.now index }
+    ensures others { SameFrom (first + 16) elements.now result.1.now }
 {
     let mut slots = [None; 16];
     let mut rest = elements;
     for i in 0..16u32 {
-        let slot = first_slot(rest, first + i);
-        if slot.is_some() {
-            rest = &rest[1..];
-        }
+        let (slot, behind) = next_slot(rest, first + i);
         slots[i as usize] = slot;
+        rest = behind;
     }
     (slots, rest)
 }
