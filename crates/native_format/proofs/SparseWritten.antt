@@ -1,20 +1,21 @@
 -- What the writer of sparse arrays lays out holds exactly the elements.
-use Rattle.std.proofs.Common.{◌≡◌, ℕ, zero, suc, ◌+◌, ◌*◌, ◌-◌, ◌/◌, ◌%◌, ◌^◌, ◌<◌, ◌≤◌, Bool, true, false, cond, eqb, ltb, leb, List, [], ◌∷◌, ◌++◌, length, map, get_or, set, take, drop, Option, Some, None, Ok, refl, sym, ap, subst, ◌∙◌, append_assoc, arith, inl, inr}
+use Rattle.std.proofs.Common.{◌≡◌, ℕ, zero, suc, ◌+◌, ◌*◌, ◌/◌, ◌%◌, ◌^◌, ◌<◌, ◌≤◌, true, cond, eqb, leb, List, [], ◌∷◌, ◌++◌, length, map, get_or, set, take, drop, Option, Some, None, Ok, refl, sym, ap, subst, ◌∙◌, append_assoc, arith, inl, inr}
 use denote.Ref.{Bor}
+use Rattle.std.specs.Prelude.{unwrap_or}
 use Rattle.std.specs.Option.{option_copied}
-use Rattle.std.specs.List.{range_with_len, flat_map, slice_get}
+use Rattle.std.specs.List.{range_with_len, slice_get}
 use Rattle.std.proofs.lemmas.Bool.{le-leb, lt-ltb, le-ltb, eq-eqb, ne_eqb, cases_lt, cases_eq}
 use Rattle.std.proofs.lemmas.List.{append-nil, length-append, drop_at, drop_more, take-append-drop, length-map, get_or-map, ext_get_or, get_or-set_same, get_or-set_other}
-use Rattle.std.proofs.lemmas.List.FromFn.{get_or-map-range_with_len, length-map-range_with_len}
+use Rattle.std.proofs.lemmas.List.FromFn.{get_or-map-range_with_len, length-map-range_with_len, map-range_with_len_more, take-map-range_with_len}
 use Rattle.std.proofs.lemmas.Option.{none-some, same_Some}
 use Rattle.std.proofs.lemmas.Grind.{flat_map-append}
-use Rattle.byteorder.specs.Endian.{little_number, little_bytes}
+use Rattle.byteorder.specs.Endian.{little_bytes}
 use Rattle.byteorder.specs.Numbers.{little_number-reads_back, length-bytes_low_first}
 use Rattle.rtr_bytes.specs.Field.{field_at}
 use Rattle.native_format.specs.declared.sparse.Element.{Element}
 use Rattle.native_format.specs.Uint.{short_uint, uint_at}
-use Rattle.native_format.specs.Sparse.{Array, Answer, array_of, array_at, blocks_of, in_block, entry_place, element_of, path, weights}
-use Rattle.native_format.specs.SparseBytes.{AreElements, content_of, StandsAt, Finds, HoldsElements, slots_from, block_bytes, block, blocks, joined, index_bytes, sparse_bytes, contents, SameFrom}
+use Rattle.native_format.specs.Sparse.{Array, Answer, array_at, blocks_of, element_of, path, weights}
+use Rattle.native_format.specs.SparseBytes.{AreElements, content_of, Finds, HoldsElements, slots_from, block_bytes, block, blocks, joined, index_bytes, sparse_bytes, contents, SameFrom, IsSmall, tree}
 use Rattle.native_format.proofs.TreeLaws.{uint_written, block_path, carried}
 
 abbrev Elements : Type 0
@@ -237,3 +238,85 @@ set_slot xs es rest first i slot lt slot-is same before k k_lt =
 
 pub same_on : (es rest behind : Elements) (m n : ℕ) → m ≤ n → SameFrom m es rest → SameFrom n rest behind → SameFrom n es behind
 same_on es rest behind m n le p q k k_le = q k k_le ∙ p k (omega arith)
+
+-- ---- the loop over the blocks
+
+blocks_more : (es : Elements) (k : ℕ) → blocks es (k + 1) ≡ blocks es k ++ block es k ∷ []
+blocks_more es k = map-range_with_len_more (block es) 0 k k (omega arith)
+
+pub index_more : (at : ℕ) (bs : List (List ℕ)) (b : List ℕ) → index_bytes at (bs ++ b ∷ []) ≡ index_bytes at bs ++ little_bytes 4 (at + length (joined bs))
+unfolding index_bytes
+index_more at [] b = let e : at + 0 ≡ at = omega arith in rw e (append-nil (little_bytes 4 at))
+index_more at (x ∷ bs) b =
+    let sum : at + length x + length (joined bs) ≡ at + length (x ++ joined bs) = omega (arith, length-append x (joined bs)) in
+    ap (λ (t : List ℕ). little_bytes 4 at ++ t) (index_more (at + length x) bs b) ∙ sym (append_assoc (little_bytes 4 at) (index_bytes (at + length x) bs) _) ∙ ap (λ (n : ℕ). (little_bytes 4 at ++ index_bytes (at + length x) bs) ++ little_bytes 4 n) sum
+
+joined_more : (bs : List (List ℕ)) (b : List ℕ) → joined (bs ++ b ∷ []) ≡ joined bs ++ b
+joined_more bs b = flat_map-append (λ x. x) bs (b ∷ []) ∙ ap (λ (t : List ℕ). joined bs ++ t) (append-nil b)
+
+pub add_entry : (es : Elements) (at k place : ℕ) (old new body : List ℕ) → place ≡ at + length body → body ≡ joined (blocks es k) → new ≡ old ++ little_bytes 4 place → old ≡ index_bytes at (blocks es k) → new ≡ index_bytes at (blocks es (k + 1))
+add_entry es at k place old new body place-is body-is new-is old-is =
+    new-is ∙ rw (place-is, body-is, old-is) (sym (index_more at (blocks es k) (block es k))) ∙ ap (index_bytes at) (sym (blocks_more es k))
+
+pub add_block : (es : Elements) (k : ℕ) (old new : List ℕ) → new ≡ old ++ block es k → old ≡ joined (blocks es k) → new ≡ joined (blocks es (k + 1))
+add_block es k old new new-is old-is = new-is ∙ ap (λ (t : List ℕ). t ++ block es k) old-is ∙ sym (joined_more (blocks es k) (block es k)) ∙ ap joined (sym (blocks_more es k))
+
+-- the slots of a block, by what is left of the elements
+pub same_slots : (es rest : Elements) (first n : ℕ) → SameFrom first es rest → slots_from rest first n ≡ slots_from es first n
+unfolding slots_from
+same_slots es rest first n same =
+    ext_get_or None (map (content_of rest) (range_with_len first n)) (map (content_of es) (range_with_len first n)) (length-map-range_with_len (content_of rest) first n ∙ sym (length-map-range_with_len (content_of es) first n))
+      (λ k lt. let k_lt : k < n = omega (arith, length-map-range_with_len (content_of rest) first n) in
+        get_or-map-range_with_len (content_of rest) first n k (first + k) None k_lt refl ∙ same (first + k) (omega arith) ∙ sym (get_or-map-range_with_len (content_of es) first n k (first + k) None k_lt refl))
+
+pub block_from : (es rest : Elements) (k : ℕ) (slots : List (Option (List ℕ))) → slots ≡ slots_from rest (16 * k) 16 → SameFrom (16 * k) es rest → block_bytes slots ≡ block es k
+block_from es rest k slots is same = ap block_bytes (is ∙ same_slots es rest (16 * k) 16 same)
+
+pub body_small : (es : Elements) (n k : ℕ) → k ≤ n → length (joined (blocks es n)) < 2 ^ 24 → length (joined (blocks es k)) < 2 ^ 24
+body_small es n k le small =
+    let front : take k (blocks es n) ≡ blocks es k = take-map-range_with_len (block es) 0 n k le in
+    omega (arith, ap (λ (bs : List (List ℕ)). length (joined bs)) front, length-joined_take (blocks es n) k)
+
+-- a block of the whole is no longer than the whole
+pub block_small : (es : Elements) (n k : ℕ) → k < n → length (joined (blocks es n)) < 2 ^ 24 → length (block es k) < 2 ^ 24
+block_small es n k lt small =
+    let next = body_small es n (k + 1) (omega arith) small in
+    omega (arith, ap length (ap joined (blocks_more es k) ∙ joined_more (blocks es k) (block es k)), length-append (joined (blocks es k)) (block es k))
+
+tree_small : (t : Option (List ℕ)) → length (unwrap_or t (short_uint 64)) < 2 ^ 24 → IsSmall t
+tree_small None h = tt
+tree_small (Some t) h = h
+
+pub slots_small : (es rest : Elements) (n k : ℕ) (slots : List (Option (List ℕ))) → k < n → length (joined (blocks es n)) < 2 ^ 24 → slots ≡ slots_from rest (16 * k) 16 → SameFrom (16 * k) es rest → IsSmall (tree weights slots)
+slots_small es rest n k slots lt small is same = tree_small (tree weights slots) (rw (block_from es rest k slots is same) (block_small es n k lt small))
+
+-- ---- what the whole asks of its parts
+
+pub wider : (es : Elements) (least count limit : ℕ) → count ≤ limit → AreElements least count es → AreElements least limit es
+wider [] least count limit le h = tt
+wider (e ∷ es) least count limit le h = (h.0, omega (arith, h.1), wider es (e.index + 1) count limit le h.2)
+
+pub record PartsAreSmall (count : ℕ) (es : Elements) : Type 0 where
+  pub few : blocks_of count < 2 ^ 22
+  pub small : length (joined (blocks es (blocks_of count))) < 2 ^ 24
+
+pub parts_small : (count : ℕ) (es : Elements) → length (sparse_bytes count es) < 2 ^ 24 → PartsAreSmall count es
+unfolding sparse_bytes
+parts_small count es small =
+    let n = blocks_of count in
+    let bs = blocks es n in
+    let header = short_uint (4 * count + 2) in
+    let sizes = length-append header (index_bytes (4 * n) bs ++ joined bs) in
+    let inner = length-append (index_bytes (4 * n) bs) (joined bs) in
+    let entries : length (index_bytes (4 * n) bs) ≡ 4 * n = length-index (4 * n) bs ∙ ap (λ (m : ℕ). 4 * m) (length-blocks es n) in
+    record { few = omega (arith, sizes, inner, entries, small); small = omega (arith, sizes, inner, small) }
+
+pub whole_is : (count n : ℕ) (es : Elements) (header one two index body : List ℕ) → n ≡ blocks_of count → header ≡ [] ++ short_uint (4 * count + 2) → one ≡ header ++ index → two ≡ one ++ body
+    → index ≡ index_bytes (4 * n) (blocks es n) → body ≡ joined (blocks es n) → two ≡ sparse_bytes count es
+unfolding sparse_bytes
+whole_is count n es header one two index body n-is header-is one-is two-is index-is body-is =
+    rw (two-is, one-is, header-is, index-is, body-is, n-is) (append_assoc (short_uint (4 * count + 2)) _ _)
+
+pub none_put : (at : ℕ) (bytes : List ℕ) → bytes ≡ [] → bytes ≡ index_bytes at []
+unfolding index_bytes
+none_put at bytes e = e

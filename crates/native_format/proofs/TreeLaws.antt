@@ -1,14 +1,14 @@
 -- A path through a written tree ends at the content of its slot.
-use Rattle.std.proofs.Common.{◌≡◌, ℕ, zero, suc, ◌+◌, ◌*◌, ◌-◌, ◌/◌, ◌%◌, ◌^◌, ◌<◌, ◌≤◌, Bool, true, false, cond, eqb, ltb, leb, List, [], ◌∷◌, ◌++◌, length, get_or, take, drop, Option, Some, None, Ok, refl, sym, ap, subst, ◌∙◌, append_assoc, arith, inl, inr}
+use Rattle.std.proofs.Common.{◌≡◌, ℕ, zero, suc, ◌+◌, ◌*◌, ◌/◌, ◌%◌, ◌^◌, ◌<◌, ◌≤◌, Bool, true, false, cond, eqb, ltb, leb, List, [], ◌∷◌, ◌++◌, length, get_or, take, drop, Option, Some, None, Ok, refl, sym, ap, subst, ◌∙◌, append_assoc, arith, inl, inr}
 use Rattle.std.specs.Prelude.{unwrap_or}
 use Rattle.std.proofs.lemmas.Bool.{le-leb, lt-ltb, le-ltb, ltb-true, ltb-false, eq-eqb, ne_eqb, cases_Bool}
-use Rattle.std.proofs.lemmas.List.{append-nil, length-append, drop_at, get_or-take, get_or-drop, length-take-le, length-drop}
+use Rattle.std.proofs.lemmas.List.{length-append, drop_at, get_or-take, get_or-drop}
 use Rattle.std.proofs.lemmas.Option.{none-some, same_Some}
 use Rattle.native_format.specs.declared.sparse.Step.TheVariants as steps
-use Rattle.native_format.specs.Uint.{IsUint, short_uint, leading_uint, uint_at}
+use Rattle.native_format.specs.Uint.{short_uint, uint_at}
 use Rattle.native_format.specs.Sparse.{Answer, bit_of, step_of, step_at, onward, path, weights}
-use Rattle.native_format.specs.SparseBytes.{StandsAt, Finds, number_in, fork_number, node, tree, block_bytes, AreSlots, IsSmall}
-use Rattle.native_format.proofs.UintLaws.{leading_of, short_spells, short_len, short_size, size_one, size_two, size_three, size_four}
+use Rattle.native_format.specs.SparseBytes.{Finds, number_in, fork_number, node, tree, block_bytes, AreSlots}
+use Rattle.native_format.proofs.UintLaws.{leading_of, short_spells, short_len, short_size}
 
 abbrev pub Slots : Type 0
 Slots = List (Option (List ℕ))

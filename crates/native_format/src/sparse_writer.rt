@@ -4,7 +4,7 @@ ghost use Rattle.std.specs.Prelude.{◌≡◌, ◌≤◌, ◌<◌, ◌^◌, ◌+
 ghost use Rattle.std.specs.Option.{option_copied, option_map};
 ghost use Rattle.native_format.specs.Uint.{short_uint};
 ghost use Rattle.native_format.specs.Sparse.{weights};
-ghost use Rattle.native_format.specs.SparseBytes.{AreElements, AreSlots, HoldsElements, SameFrom, IsSmall, IsShort, block_bytes, content_of, contents, head_of_node, length_of_node, fork_number, slots_from, sparse_bytes, tree};
+ghost use Rattle.native_format.specs.SparseBytes.{AreElements, AreSlots, HoldsElements, SameFrom, IsSmall, IsShort, block_bytes, blocks, content_of, contents, fork_number, head_of_node, index_bytes, joined, length_of_node, slots_from, sparse_bytes, tree};
 
 use crate::sparse::Element;
 use crate::uint::write_uint;
@@ -187,6 +187,27 @@ fn block_slots(elements: &[Element], first: u32) -> ([Slot<'_>; 16], &[Element])
     (slots, rest)
 }
 
+/// The block index, of so many entries, and the blocks behind it.
+fn lay_out(alloc: Global, count: u32, elements: &[Element]) -> Result<(Vec<u8>, Vec<u8>), NoMemory>
+    requires elements { AreElements 0 (2 ^ 32) elements.now }
+    requires few { count < 2 ^ 22 }
+    requires small { length (joined (blocks elements.now count)) < 2 ^ 24 }
+    ensures index { IfOk result (λ parts. parts.0.items ≡ index_bytes (4 * count) (blocks elements.now count)) }
+    ensures blocks { IfOk result (λ parts. parts.1.items ≡ joined (blocks elements.now count)) }
+{
+    let mut index = Vec::new(alloc);
+    let mut body = Vec::new(alloc);
+    let mut rest = elements;
+    for k in 0..count {
+        let (slots, behind) = block_slots(rest, 16 * k);
+        let place = 4 * count + body.len() as u32;
+        index.extend_from_slice(&place.to_le_bytes())?;
+        put_block(&mut body, &slots)?;
+        rest = behind;
+    }
+    Ok((index, body))
+}
+
 /// The bytes of a sparse array of a count with these elements, and no others. Its index entries have four
 /// bytes, each element's path has all four nodes, and an empty block is the node 64.
 pub fn write_sparse(alloc: Global, count: u32, elements: &[Element]) -> Result<Vec<u8>, NoMemory>
@@ -196,16 +217,7 @@ pub fn write_sparse(alloc: Global, count: u32, elements: &[Element]) -> Result<V
     // Whatever follows, the array that is read there has exactly the elements.
     ensures holds { IfOk result (λ v. (rest : List ℕ) → HoldsElements (v.items ++ rest) count elements.now) }
 {
-    let blocks = count / 16 + if count % 16 == 0 { 0 } else { 1 };
-    let mut index = Vec::new(alloc);
-    let mut body = Vec::new(alloc);
-    let mut rest = elements;
-    for k in 0..blocks {
-        let (slots, behind) = block_slots(rest, 16 * k);
-        index.extend_from_slice(&(4 * blocks + body.len() as u32).to_le_bytes())?;
-        put_block(&mut body, &slots)?;
-        rest = behind;
-    }
+    let (index, body) = lay_out(alloc, count.div_ceil(16), elements)?;
     let mut out = Vec::new(alloc);
     write_uint(&mut out, 4 * count + 2)?;
     out.extend_from_slice(&index)?;

@@ -1,4 +1,4 @@
-use Rattle.std.proofs.Common.{◌∙◌, ap, sym, subst, arith, rules, length}
+use Rattle.std.proofs.Common.{◌∙◌, ap, sym, subst, arith, length}
 use Rattle.std.specs.Option.{option_map}
 use Rattle.native_format.specs.SparseBytes.{IsSmall}
 use Rattle.native_format.proofs.WriterParts.{wide_low, wide_high, small_low, small_high, len_is, len_small, leaf}

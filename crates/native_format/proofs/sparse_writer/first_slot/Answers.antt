@@ -1,6 +1,5 @@
 use Rattle.std.proofs.Common.{sym, ap, ◌∙◌, Some}
-use Rattle.native_format.proofs.TreeLaws.{tree_path}
-use Rattle.native_format.proofs.SparseWritten.{none_left, first_found, first_other, holds}
+use Rattle.native_format.proofs.SparseWritten.{none_left, first_found, first_other}
 use Rattle.native_format.proofs.sparse_writer.first_slot.Goals as goal
 
 pub returns-in_err-first : goal.returns-in_err-first
