@@ -15,7 +15,8 @@ use Rattle.rtr_bytes.specs.Field.{field_at}
 use Rattle.native_format.specs.declared.sparse.Element.{Element}
 use Rattle.native_format.specs.Uint.{short_uint, uint_at}
 use Rattle.native_format.specs.Sparse.{Array, Answer, array_at, blocks_of, element_of, path, weights}
-use Rattle.native_format.specs.SparseBytes.{AreElements, content_of, Finds, HoldsElements, slots_from, block_bytes, block, blocks, joined, index_bytes, sparse_bytes, contents, SameFrom, IsSmall, tree}
+use Rattle.native_format.specs.SparseBytes.{AreElements, content_of, Finds, HoldsElements, slots_from, block_bytes, block, blocks, joined, index_bytes, sparse_bytes, tree}
+use Rattle.native_format.specs.SparseSteps.{contents, SameFrom, IsSmall}
 use Rattle.native_format.proofs.TreeLaws.{uint_written, block_path, carried}
 
 abbrev Elements : Type 0

@@ -7,7 +7,8 @@ use Rattle.std.proofs.lemmas.Option.{none-some, same_Some}
 use Rattle.native_format.specs.declared.sparse.Step.TheVariants as steps
 use Rattle.native_format.specs.Uint.{short_uint, uint_at}
 use Rattle.native_format.specs.Sparse.{Answer, bit_of, step_of, step_at, onward, path, weights}
-use Rattle.native_format.specs.SparseBytes.{Finds, number_in, fork_number, node, tree, block_bytes, AreSlots}
+use Rattle.native_format.specs.SparseBytes.{Finds, number_in, fork_number, node, tree, block_bytes}
+use Rattle.native_format.specs.SparseSteps.{AreSlots}
 use Rattle.native_format.proofs.UintLaws.{leading_of, short_spells, short_len, short_size}
 
 abbrev pub Slots : Type 0

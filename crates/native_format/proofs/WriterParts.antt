@@ -5,7 +5,8 @@ use Rattle.std.specs.Prelude.{unwrap_or}
 use Rattle.std.specs.Option.{option_copied, option_map}
 use Rattle.std.proofs.lemmas.List.{append-nil, length-append, length-take-le, length-drop, take-map, drop-map, take_rest}
 use Rattle.native_format.specs.Uint.{short_uint}
-use Rattle.native_format.specs.SparseBytes.{fork_number, node, tree, AreSlots, IsSmall, IsShort, contents, length_of_node, head_of_node}
+use Rattle.native_format.specs.SparseBytes.{fork_number, node, tree}
+use Rattle.native_format.specs.SparseSteps.{AreSlots, IsSmall, IsShort, contents, length_of_node, head_of_node}
 use Rattle.native_format.proofs.UintLaws.{short_len}
 
 abbrev Lent : Type 0

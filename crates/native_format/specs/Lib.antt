@@ -3,3 +3,4 @@ pub mod Nibbles
 pub mod NibbleSteps
 pub mod Sparse
 pub mod SparseBytes
+pub mod SparseSteps

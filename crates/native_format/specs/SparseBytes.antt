@@ -2,8 +2,6 @@
 -- 64 for an empty block.
 use Rattle.std.specs.Prelude.{◌≡◌, ℕ, ◌+◌, ◌*◌, ◌<◌, ◌≤◌, ◌^◌, ◌==◌, List, [], ◌∷◌, ◌++◌, length, map, take, drop, get_or, Option, Some, None, Ok, nat_lt, if◌then◌else◌, unwrap_or}
 use Rattle.std.specs.List.{range_with_len, flat_map}
-use Rattle.std.specs.Option.{option_copied}
-use denote.Ref.{Bor}
 use Rattle.byteorder.specs.Endian.{little_bytes}
 use Rattle.native_format.specs.declared.sparse.Element.{Element}
 use Rattle.native_format.specs.Uint.{short_uint}
@@ -94,39 +92,3 @@ sparse_bytes count elements =
     let n = blocks_of count in
     let bs = blocks elements n in
     short_uint (4 * count + 2) ++ (index_bytes (4 * n) bs ++ joined bs)
-
--- ---- the parts of the writer
-
--- as many slots as the weights tell apart
-abbrev pub AreSlots : List ℕ → ℕ → Type 0
-AreSlots [] n = n ≡ 1
-AreSlots (weight ∷ lower) n = (n ≡ 2 * weight) × AreSlots lower weight
-
-abbrev pub IsSmall : Option (List ℕ) → Type 0
-IsSmall None = Unit {0}
-IsSmall (Some bytes) = length bytes < 2 ^ 24
-
-abbrev pub IsShort : Option ℕ → Type 0
-IsShort None = Unit {0}
-IsShort (Some n) = n < 2 ^ 24
-
--- the contents that slots lend
-abbrev pub contents : List (Option (Bor (List ℕ))) → List (Option (List ℕ))
-contents slots = map option_copied slots
-
--- a node's length and its own number, by the lengths of the trees below
-abbrev pub length_of_node : Option ℕ → Option ℕ → Option ℕ
-length_of_node None None = None
-length_of_node (Some low) None = Some (1 + low)
-length_of_node None (Some high) = Some (1 + high)
-length_of_node (Some low) (Some high) = Some (length (short_uint (fork_number low)) + (low + high))
-
-abbrev pub head_of_node : Option ℕ → Option ℕ → List ℕ
-head_of_node None None = []
-head_of_node (Some low) None = short_uint 1
-head_of_node None (Some high) = short_uint 6
-head_of_node (Some low) (Some high) = short_uint (fork_number low)
-
--- the contents are the same from an index on
-abbrev pub SameFrom : ℕ → List Element → List Element → Type 0
-SameFrom least before after = (index : ℕ) → least ≤ index → content_of after index ≡ content_of before index

@@ -4,7 +4,8 @@ ghost use Rattle.std.specs.Prelude.{◌≡◌, ◌≤◌, ◌<◌, ◌^◌, ◌+
 ghost use Rattle.std.specs.Option.{option_copied, option_map};
 ghost use Rattle.native_format.specs.Uint.{short_uint};
 ghost use Rattle.native_format.specs.Sparse.{weights};
-ghost use Rattle.native_format.specs.SparseBytes.{AreElements, AreSlots, HoldsElements, SameFrom, IsSmall, IsShort, block_bytes, blocks, content_of, contents, fork_number, head_of_node, index_bytes, joined, length_of_node, slots_from, sparse_bytes, tree};
+ghost use Rattle.native_format.specs.SparseBytes.{AreElements, HoldsElements, block_bytes, blocks, content_of, fork_number, index_bytes, joined, slots_from, sparse_bytes, tree};
+ghost use Rattle.native_format.specs.SparseSteps.{AreSlots, SameFrom, IsSmall, IsShort, contents, head_of_node, length_of_node};
 
 use crate::sparse::Element;
 use crate::uint::write_uint;

@@ -1,6 +1,6 @@
 use Rattle.std.proofs.Common.{◌∙◌, ap, sym, subst, arith, length}
 use Rattle.std.specs.Option.{option_map}
-use Rattle.native_format.specs.SparseBytes.{IsSmall}
+use Rattle.native_format.specs.SparseSteps.{IsSmall}
 use Rattle.native_format.proofs.WriterParts.{wide_low, wide_high, small_low, small_high, len_is, len_small, leaf}
 use Rattle.native_format.proofs.sparse_writer.+tree_len.Goals as goal
 

@@ -1,6 +1,7 @@
 use Rattle.std.proofs.Common.{◌≡◌, ◌∙◌, ◌+◌, ◌^◌, subst, arith}
 use Rattle.std.proofs.lemmas.List.{length-set}
-use Rattle.native_format.specs.SparseBytes.{AreElements, SameFrom}
+use Rattle.native_format.specs.SparseBytes.{AreElements}
+use Rattle.native_format.specs.SparseSteps.{SameFrom}
 use Rattle.native_format.proofs.SparseWritten.{all_slots, set_slot, same_on}
 use Rattle.native_format.proofs.sparse_writer.block_slots.Goals as goal
 

@@ -1,6 +1,7 @@
 use Rattle.std.proofs.Common.{◌≡◌, ℕ, ◌+◌, ◌^◌, ◌<◌, None, get_or, length}
 use Rattle.std.specs.Option.{option_copied}
-use Rattle.native_format.specs.SparseBytes.{AreElements, SameFrom, content_of}
+use Rattle.native_format.specs.SparseBytes.{AreElements, content_of}
+use Rattle.native_format.specs.SparseSteps.{SameFrom}
 use Rattle.native_format.proofs.sparse_writer.block_slots.Given as goal
 
 -- the slots so far, and that the rest has what is at or behind the next index

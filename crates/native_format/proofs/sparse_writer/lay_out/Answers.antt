@@ -1,5 +1,6 @@
 use Rattle.std.proofs.Common.{◌≡◌, ◌+◌, ◌*◌, ◌^◌, ◌++◌, length, ap, refl, subst, ◌∙◌, arith}
-use Rattle.native_format.specs.SparseBytes.{AreElements, SameFrom, contents}
+use Rattle.native_format.specs.SparseBytes.{AreElements}
+use Rattle.native_format.specs.SparseSteps.{SameFrom, contents}
 use Rattle.native_format.proofs.SparseWritten.{none_put, add_entry, add_block, slots_small, body_small, block_from, same_on}
 use Rattle.native_format.proofs.sparse_writer.lay_out.Goals as goal
 

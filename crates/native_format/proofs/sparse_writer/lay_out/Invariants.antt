@@ -1,5 +1,6 @@
 use Rattle.std.proofs.Common.{◌≡◌, ◌*◌, ◌^◌}
-use Rattle.native_format.specs.SparseBytes.{AreElements, SameFrom, blocks, index_bytes, joined}
+use Rattle.native_format.specs.SparseBytes.{AreElements, blocks, index_bytes, joined}
+use Rattle.native_format.specs.SparseSteps.{SameFrom}
 use Rattle.native_format.proofs.sparse_writer.lay_out.Given as goal
 
 -- the blocks so far with their entries, and that the rest has what is behind them

@@ -1,5 +1,6 @@
 use Rattle.std.proofs.Common.{◌+◌, ◌^◌, sym, subst}
-use Rattle.native_format.specs.SparseBytes.{AreElements, SameFrom}
+use Rattle.native_format.specs.SparseBytes.{AreElements}
+use Rattle.native_format.specs.SparseSteps.{SameFrom}
 use Rattle.native_format.proofs.SparseWritten.{behind_found, behind_none}
 use Rattle.native_format.proofs.sparse_writer.next_slot.Goals as goal
 
