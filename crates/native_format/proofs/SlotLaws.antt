@@ -1,0 +1,281 @@
+-- Lists of slots and the numbers that spell them.
+use Rattle.std.proofs.Common.{◌≡◌, ◌⊎◌, ℕ, zero, suc, ◌+◌, ◌*◌, ◌-◌, ◌^◌, ◌<◌, ◌≤◌, Bool, true, false, cond, eqb, ltb, List, [], ◌∷◌, ◌++◌, length, get_or, take, drop, Option, Some, None, Result, Ok, Err, refl, sym, ap, subst, ◌∙◌, append_assoc, arith, inl, inr}
+use Rattle.std.specs.Option.{option_map}
+use Rattle.std.specs.Result.{IfOk}
+use Rattle.std.specs.List.{flat_map, AllByRecursion}
+use Rattle.std.specs.Global.{Vec}
+use Rattle.std.proofs.lemmas.Bool.{eq-eqb, ne_eqb, lt-ltb, le-ltb, ltb-true, and_parts, and_right}
+use Rattle.std.proofs.lemmas.List.{append-nil, drop_more, drop_all, take_rest}
+use Rattle.std.proofs.lemmas.Grind.{flat_map-append}
+use Rattle.std.proofs.lemmas.Option.{none-some, same_Some}
+use Rattle.native_format.specs.declared.nibbles.SlotRef.{SlotRef}
+use Rattle.native_format.specs.declared.nibbles.ListRefusal.{ListRefusal}
+use Rattle.native_format.specs.Nibbles.{nibbles, numbers, numbers_between, numbers_behind, numbers_of, Precedes, AscendFrom, IsSlotList, FitsWords, BeginsWithList, fits_words, with_first, at_slot, slots_behind, slots_of, list_at, GivesList, groups, list_bytes}
+use Rattle.native_format.specs.NibbleSteps.{IsLost, ReadsSlot, numbers_from}
+use Rattle.native_format.proofs.NibbleLaws.{nibbles-append, nibbles-drop, nibbles_packed, numbers_written, written_are}
+
+abbrev Slots : Type 0
+Slots = List SlotRef
+
+-- ---- one slot in front
+
+pub first_fits : (r : SlotRef) (rs : Slots) → FitsWords r → with_first r (Some rs) ≡ Some (r ∷ rs)
+first_fits r rs h = rw (lt-ltb r.section (2 ^ 32) h.0, lt-ltb r.slot (2 ^ 32) h.1) refl
+
+pub first_is : (r : SlotRef) (others : Option Slots) → FitsWords r → with_first r others ≡ option_map (λ rs. r ∷ rs) others
+first_is r others h = rw (lt-ltb r.section (2 ^ 32) h.0, lt-ltb r.slot (2 ^ 32) h.1) refl
+
+pub section_wide : (r : SlotRef) (others : Option Slots) → 2 ^ 32 ≤ r.section → with_first r others ≡ None
+section_wide r others h = rw (le-ltb r.section (2 ^ 32) h) refl
+
+pub slot_wide : (r : SlotRef) (others : Option Slots) → 2 ^ 32 ≤ r.slot → with_first r others ≡ None
+slot_wide r others h = rw (and_right (ltb r.section (2 ^ 32)) (ltb r.slot (2 ^ 32)) (le-ltb r.slot (2 ^ 32) h)) refl
+
+record Fronted (r : SlotRef) (others : Option Slots) (list : Slots) : Type 0 where
+  pub fits : FitsWords r
+  pub rest : Slots
+  pub others_are : others ≡ Some rest
+  pub list_is : r ∷ rest ≡ list
+
+fronted : (r : SlotRef) (others : Option Slots) (list : Slots) → with_first r others ≡ Some list → Fronted r others list
+fronted r others list e = go (fits_words r) others refl e where
+  go : (b : Bool) (o : Option Slots) → fits_words r ≡ b → cond b (option_map (λ rs. r ∷ rs) o) None ≡ Some list → Fronted r o list
+  go false o is e = absurd (none-some list e)
+  go true None is e = absurd (none-some list e)
+  go true (Some rs) is e =
+      let parts = and_parts (ltb r.section (2 ^ 32)) (ltb r.slot (2 ^ 32)) is in
+      record { fits = (ltb-true _ _ parts.0, ltb-true _ _ parts.1); rest = rs; others_are = refl; list_is = same_Some (r ∷ rs) list e }
+
+-- ---- a distance above 0
+
+pub behind_slot : (last : SlotRef) (d : ℕ) (ns : List ℕ) → 0 < d → slots_behind last (d ∷ ns) ≡ with_first (at_slot last.section (last.slot + d)) (slots_behind (at_slot last.section (last.slot + d)) ns)
+unfolding slots_behind
+behind_slot last zero ns h = absurd (omega arith)
+behind_slot last (suc d) ns h = refl
+
+pub behind_section : (last : SlotRef) (d slot : ℕ) (ns : List ℕ) → 0 < d → slots_behind last (0 ∷ d ∷ slot ∷ ns) ≡ with_first (at_slot (last.section + d) slot) (slots_behind (at_slot (last.section + d) slot) ns)
+unfolding slots_behind
+behind_section last zero slot ns h = absurd (omega arith)
+behind_section last (suc d) slot ns h = refl
+
+-- what was read, and what is read behind it
+abbrev pub with_front : Slots → Option Slots → Option Slots
+with_front front others = option_map (λ rs. front ++ rs) others
+
+pub front_more : (front : Slots) (r : SlotRef) (others : Option Slots) → with_front front (option_map (λ rs. r ∷ rs) others) ≡ with_front (front ++ r ∷ []) others
+front_more front r None = refl
+front_more front r (Some rs) = ap (λ (l : Slots). Some l) (sym (append_assoc front (r ∷ []) rs))
+
+front_one : (r : SlotRef) (others : Option Slots) → with_front (r ∷ []) others ≡ option_map (λ rs. r ∷ rs) others
+front_one r None = refl
+front_one r (Some rs) = refl
+
+-- ---- what is spelled is read
+
+all_behind : (last : SlotRef) (list : Slots) (behind : List ℕ) → AscendFrom last list → AllByRecursion FitsWords list → slots_behind last (numbers_behind last list ++ behind) ≡ Some list
+unfolding slots_behind numbers_behind
+all_behind last [] behind ascend fit = refl
+all_behind last (r ∷ rs) behind (inl lower, ascend) fit =
+    let apart : eqb r.section last.section ≡ false = ne_eqb _ _ (λ e. omega (arith, e)) in
+    let sum : last.section + (r.section - last.section) ≡ r.section = omega arith in
+    rw apart (behind_section last (r.section - last.section) r.slot (numbers_behind r rs ++ behind) (omega arith) ∙ rw sum (ap (with_first r) (all_behind r rs behind ascend fit.1) ∙ first_fits r rs fit.0))
+all_behind last (r ∷ rs) behind (inr same, ascend) fit =
+    let equal : eqb r.section last.section ≡ true = eq-eqb _ _ (sym same.0) in
+    let sum : last.slot + (r.slot - last.slot) ≡ r.slot = omega (arith, same.1) in
+    let section : last.section ≡ r.section = same.0 in
+    rw equal (behind_slot last (r.slot - last.slot) (numbers_behind r rs ++ behind) (omega (arith, same.1)) ∙ rw (sum, section) (ap (with_first r) (all_behind r rs behind ascend fit.1) ∙ first_fits r rs fit.0))
+
+pub all_of : (list : Slots) (behind : List ℕ) → IsSlotList list → AllByRecursion FitsWords list → slots_of (numbers_of list ++ behind) ≡ Some list
+unfolding slots_of numbers_of
+all_of [] behind ascend fit = absurd ascend
+all_of (r ∷ rs) behind ascend fit = ap (with_first r) (all_behind r rs behind ascend fit.1) ∙ first_fits r rs fit.0
+
+-- ---- what is read is spelled
+
+record Behind (last : SlotRef) (list : Slots) (ns : List ℕ) : Type 0 where
+  pub ascend : AscendFrom last list
+  pub behind : List ℕ
+  pub spelled : ns ≡ numbers_behind last list ++ behind
+
+read_behind : (last : SlotRef) (ns : List ℕ) (list : Slots) → slots_behind last ns ≡ Some list → Behind last list ns
+unfolding slots_behind numbers_behind
+read_behind last [] list e = absurd (none-some list e)
+read_behind last (zero ∷ []) list e = absurd (none-some list e)
+read_behind last (zero ∷ zero ∷ ns) list e = subst (λ (l : Slots). Behind last l (zero ∷ zero ∷ ns)) (same_Some [] list e) (record { ascend = tt; behind = ns; spelled = refl })
+read_behind last (zero ∷ suc d ∷ []) list e = absurd (none-some list e)
+read_behind last (zero ∷ suc d ∷ slot ∷ ns) list e =
+    let r = at_slot (last.section + suc d) slot in
+    let f = fronted r (slots_behind r ns) list e in
+    let b = read_behind r ns f.rest f.others_are in
+    let apart : eqb (last.section + suc d) last.section ≡ false = ne_eqb _ _ (λ e. omega (arith, e)) in
+    let distance : last.section + suc d - last.section ≡ suc d = omega arith in
+    subst (λ (l : Slots). Behind last l (zero ∷ suc d ∷ slot ∷ ns)) f.list_is (record {
+      ascend = (inl (omega arith), b.ascend);
+      behind = b.behind;
+      spelled = rw (apart, distance) (ap (λ (t : List ℕ). zero ∷ suc d ∷ slot ∷ t) b.spelled);
+    })
+read_behind last (suc d ∷ ns) list e =
+    let r = at_slot last.section (last.slot + suc d) in
+    let f = fronted r (slots_behind r ns) list e in
+    let b = read_behind r ns f.rest f.others_are in
+    let equal : eqb last.section last.section ≡ true = eq-eqb _ _ refl in
+    let distance : last.slot + suc d - last.slot ≡ suc d = omega arith in
+    subst (λ (l : Slots). Behind last l (suc d ∷ ns)) f.list_is (record {
+      ascend = (inr (refl, omega arith), b.ascend);
+      behind = b.behind;
+      spelled = rw (equal, distance) (ap (λ (t : List ℕ). suc d ∷ t) b.spelled);
+    })
+
+read_numbers : (bytes ns : List ℕ) (list : Slots) → numbers (nibbles bytes) ≡ ns → slots_of ns ≡ Some list → BeginsWithList bytes list
+unfolding slots_of numbers_of
+read_numbers bytes [] list is e = absurd (none-some list e)
+read_numbers bytes (section ∷ []) list is e = absurd (none-some list e)
+read_numbers bytes (section ∷ slot ∷ ns) list is e =
+    let r = at_slot section slot in
+    let f = fronted r (slots_behind r ns) list e in
+    let b = read_behind r ns f.rest f.others_are in
+    subst (λ (l : Slots). BeginsWithList bytes l) f.list_is (record { ascending = b.ascend; behind = b.behind; spelled = is ∙ ap (λ (t : List ℕ). section ∷ slot ∷ t) b.spelled })
+
+pub read_list : (bytes : List ℕ) (list : Slots) → slots_of (numbers (nibbles bytes)) ≡ Some list → BeginsWithList bytes list
+read_list bytes list e = read_numbers bytes (numbers (nibbles bytes)) list refl e
+
+pub is_found : (bytes : List ℕ) (at : ℕ) (r : Result (Vec SlotRef) ListRefusal) → GivesList r (list_at bytes at) → IfOk r (λ v. BeginsWithList (drop at bytes) v.items)
+is_found bytes at (Ok v) e = read_list (drop at bytes) v.items e
+is_found bytes at (Err e) given = tt
+
+pub is_read : (bytes : List ℕ) (at : ℕ) (list : Slots) → AllByRecursion FitsWords list → BeginsWithList (drop at bytes) list → list_at bytes at ≡ Some list
+is_read bytes at list fit h = ap slots_of h.spelled ∙ all_of list h.behind h.ascending fit
+
+-- ---- what is written is spelled, whatever follows
+
+pub is_written : (list : Slots) (rest : List ℕ) → IsSlotList list → BeginsWithList (list_bytes list ++ rest) list
+is_written list rest ascending =
+    let ns = flat_map groups (numbers_of list) in
+    let p = nibbles_packed ns (written_are (numbers_of list)) in
+    let whole : nibbles (list_bytes list ++ rest) ≡ ns ++ (p.0 ++ nibbles rest) = nibbles-append (list_bytes list) rest ∙ ap (λ (t : List ℕ). t ++ nibbles rest) p.1 ∙ append_assoc ns p.0 (nibbles rest) in
+    record { ascending = ascending; behind = numbers (p.0 ++ nibbles rest); spelled = ap numbers whole ∙ numbers_written (numbers_of list) (p.0 ++ nibbles rest) }
+
+-- ---- the parts of the reader
+
+lost_or_cut : (ns : List ℕ) → IsLost ns → (ns ≡ []) ⊎ ((v : ℕ) × (rest : List ℕ) × (ns ≡ v ∷ rest) × (2 ^ 32 ≤ v))
+lost_or_cut [] h = inl refl
+lost_or_cut (v ∷ rest) h = inr (v, rest, refl, h)
+
+pub no_section : (ns : List ℕ) → IsLost ns → slots_of ns ≡ None
+unfolding slots_of
+no_section [] h = refl
+no_section (section ∷ []) h = refl
+no_section (section ∷ slot ∷ ns) h = section_wide (at_slot section slot) (slots_behind (at_slot section slot) ns) h
+
+pub no_slot : (section : ℕ) (ns : List ℕ) → IsLost ns → slots_of (section ∷ ns) ≡ None
+unfolding slots_of
+no_slot section [] h = refl
+no_slot section (slot ∷ ns) h = slot_wide (at_slot section slot) (slots_behind (at_slot section slot) ns) h
+
+pub slot_sum_wide : (last : SlotRef) (d : ℕ) (ns : List ℕ) → 0 < d → 2 ^ 32 ≤ last.slot + d → slots_behind last (d ∷ ns) ≡ None
+slot_sum_wide last d ns some h = behind_slot last d ns some ∙ slot_wide (at_slot last.section (last.slot + d)) (slots_behind (at_slot last.section (last.slot + d)) ns) h
+
+pub no_distance : (last : SlotRef) (ns : List ℕ) → IsLost ns → slots_behind last ns ≡ None
+unfolding slots_behind
+no_distance last [] h = refl
+no_distance last (v ∷ ns) h = slot_sum_wide last v ns (omega arith) (omega arith)
+
+pub section_sum_wide : (last : SlotRef) (d : ℕ) (ns : List ℕ) → 0 < d → 2 ^ 32 ≤ last.section + d → slots_behind last (0 ∷ d ∷ ns) ≡ None
+unfolding slots_behind
+section_sum_wide last zero ns some h = absurd (omega arith)
+section_sum_wide last (suc d) [] some h = refl
+section_sum_wide last (suc d) (slot ∷ ns) some h = section_wide (at_slot (last.section + suc d) slot) (slots_behind (at_slot (last.section + suc d) slot) ns) h
+
+pub no_section_distance : (last : SlotRef) (ns : List ℕ) → IsLost ns → slots_behind last (0 ∷ ns) ≡ None
+unfolding slots_behind
+no_section_distance last [] h = refl
+no_section_distance last (v ∷ ns) h = section_sum_wide last v ns (omega arith) (omega arith)
+
+pub no_first_slot : (last : SlotRef) (d : ℕ) (ns : List ℕ) → 0 < d → IsLost ns → slots_behind last (0 ∷ d ∷ ns) ≡ None
+unfolding slots_behind
+no_first_slot last zero ns some h = absurd (omega arith)
+no_first_slot last (suc d) [] some h = refl
+no_first_slot last (suc d) (slot ∷ ns) some h = slot_wide (at_slot (last.section + suc d) slot) (slots_behind (at_slot (last.section + suc d) slot) ns) h
+
+pub ends_here : (last : SlotRef) (ns : List ℕ) → slots_behind last (0 ∷ 0 ∷ ns) ≡ Some []
+unfolding slots_behind
+ends_here last ns = refl
+
+pub reads : (bytes : List ℕ) (list : Option Slots) (start at : ℕ) (slot : SlotRef) → start < at → at ≤ 2 * length bytes → FitsWords slot
+    → list ≡ with_first slot (slots_behind slot (numbers_from bytes at)) → ReadsSlot bytes list start slot at
+reads bytes list start at slot further within fit is = record { further = further; within = within; list_is = is ∙ first_is slot (slots_behind slot (numbers_from bytes at)) fit }
+
+-- the list from a place on, by its nibbles
+pub list_from_nibble : (bytes : List ℕ) (at : ℕ) → slots_of (numbers_from bytes (2 * at)) ≡ list_at bytes at
+list_from_nibble bytes at = ap (λ (ns : List ℕ). slots_of (numbers ns)) (nibbles-drop at bytes)
+
+pub slots_of_two : (section slot : ℕ) (ns : List ℕ) → slots_of (section ∷ slot ∷ ns) ≡ with_first (at_slot section slot) (slots_behind (at_slot section slot) ns)
+unfolding slots_of
+slots_of_two section slot ns = refl
+
+-- two numbers and what is behind them
+pub same_two : {a b : ℕ} (all some behind : List ℕ) (m n : ℕ) → a ≡ m → b ≡ n → all ≡ a ∷ some → some ≡ b ∷ behind → all ≡ m ∷ n ∷ behind
+same_two {a} {b} all some behind m n p q e f = rw (e, f, p, q) refl
+
+-- ---- the loop of the reader
+
+pub starts : (bytes : List ℕ) (at after : ℕ) (slot : SlotRef) (list : Slots) → list ≡ slot ∷ [] → ReadsSlot bytes (slots_of (numbers_from bytes (2 * at))) (2 * at) slot after
+    → with_front list (slots_behind slot (numbers_from bytes after)) ≡ list_at bytes at
+starts bytes at after slot list is h = rw is (front_one slot (slots_behind slot (numbers_from bytes after)) ∙ sym h.list_is ∙ list_from_nibble bytes at)
+
+pub more : (front list : Slots) (bytes : List ℕ) (place after : ℕ) (last slot : SlotRef) (all : Option Slots) → list ≡ front ++ slot ∷ []
+    → ReadsSlot bytes (slots_behind last (numbers_from bytes place)) place slot after → with_front front (slots_behind last (numbers_from bytes place)) ≡ all
+    → with_front list (slots_behind slot (numbers_from bytes after)) ≡ all
+more front list bytes place after last slot all is h e =
+    rw is (sym (front_more front slot (slots_behind slot (numbers_from bytes after))) ∙ ap (with_front front) (sym h.list_is) ∙ e)
+
+pub refused : (front : Slots) (others all : Option Slots) → others ≡ None → with_front front others ≡ all → all ≡ None
+refused front others all none e = sym e ∙ ap (with_front front) none
+
+pub complete : (front : Slots) (others all : Option Slots) → others ≡ Some [] → with_front front others ≡ all → all ≡ Some front
+complete front others all ended e = sym e ∙ ap (with_front front) ended ∙ ap (λ (l : Slots). Some l) (append-nil front)
+
+-- ---- the loop of the writer
+
+pub in_order : (last : SlotRef) (list : Slots) (i : ℕ) (slot d : SlotRef) → i < length list → slot ≡ get_or list i d → AscendFrom last (drop i list) → Precedes last slot × AscendFrom slot (drop (i + 1) list)
+in_order last list i slot d lt is h =
+    let next : drop i list ≡ slot ∷ drop (i + 1) list = drop_more list i d lt ∙ ap (λ (r : SlotRef). r ∷ drop (i + 1) list) (sym is) in
+    subst (AscendFrom last) next h
+
+-- what was put, and what is put behind it, are all
+pub put_one : (old new all : List ℕ) (last : SlotRef) (list : Slots) (i : ℕ) (slot d : SlotRef) → i < length list → slot ≡ get_or list i d
+    → new ≡ old ++ flat_map groups (numbers_between last slot) → old ++ flat_map groups (numbers_behind last (drop i list)) ≡ all
+    → new ++ flat_map groups (numbers_behind slot (drop (i + 1) list)) ≡ all
+unfolding numbers_behind
+put_one old new all last list i slot d lt is new-is e =
+    let next : drop i list ≡ slot ∷ drop (i + 1) list = drop_more list i d lt ∙ ap (λ (r : SlotRef). r ∷ drop (i + 1) list) (sym is) in
+    let others = numbers_behind slot (drop (i + 1) list) in
+    let split : flat_map groups (numbers_behind last (drop i list)) ≡ flat_map groups (numbers_between last slot) ++ flat_map groups others = ap (λ (l : Slots). flat_map groups (numbers_behind last l)) next ∙ flat_map-append groups (numbers_between last slot) others in
+    ap (λ (l : List ℕ). l ++ flat_map groups others) new-is ∙ append_assoc old _ _ ∙ ap (λ (l : List ℕ). old ++ l) (sym split) ∙ e
+
+pub put_last : (old one new all : List ℕ) (last : SlotRef) (list : Slots) (i : ℕ) → length list ≤ i → one ≡ old ++ groups 0 → new ≡ one ++ groups 0
+    → old ++ flat_map groups (numbers_behind last (drop i list)) ≡ all → new ≡ all
+unfolding numbers_behind
+put_last old one new all last list i le one-is new-is e =
+    let nothing : drop i list ≡ [] = drop_all i list le in
+    new-is ∙ ap (λ (l : List ℕ). l ++ groups 0) one-is ∙ append_assoc old (groups 0) (groups 0) ∙ ap (λ (l : List ℕ). old ++ (groups 0 ++ l)) (sym (append-nil (groups 0))) ∙ ap (λ (l : Slots). old ++ flat_map groups (numbers_behind last l)) (sym nothing) ∙ e
+
+pub some_slot : (list : Slots) → IsSlotList list → 1 ≤ length list
+some_slot [] h = absurd h
+some_slot (r ∷ rs) h = omega arith
+
+pub first_and_others : (list : Slots) (first d : SlotRef) → first ≡ get_or list 0 d → IsSlotList list → list ≡ first ∷ drop 1 list
+first_and_others [] first d is h = absurd h
+first_and_others (r ∷ rs) first d is h = ap (λ (x : SlotRef). x ∷ rs) (sym is)
+
+pub others_ascend : (list : Slots) (first d : SlotRef) → first ≡ get_or list 0 d → IsSlotList list → AscendFrom first (drop 1 list)
+others_ascend list first d is h = subst IsSlotList (first_and_others list first d is h) h
+
+pub put_all : (list : Slots) (first d : SlotRef) (old one two new : List ℕ) → first ≡ get_or list 0 d → IsSlotList list
+    → one ≡ old ++ groups first.section → two ≡ one ++ groups first.slot → new ≡ two ++ flat_map groups (numbers_behind first (take (length list - 1) (drop 1 list)))
+    → new ≡ old ++ flat_map groups (numbers_of list)
+unfolding numbers_of
+put_all list first d old one two new is h one-is two-is new-is =
+    let rest = flat_map groups (numbers_behind first (drop 1 list)) in
+    let whole : old ++ flat_map groups (numbers_of (first ∷ drop 1 list)) ≡ old ++ flat_map groups (numbers_of list) = ap (λ (l : Slots). old ++ flat_map groups (numbers_of l)) (sym (first_and_others list first d is h)) in
+    new-is ∙ ap (λ (l : Slots). two ++ flat_map groups (numbers_behind first l)) (take_rest list 1) ∙ ap (λ (l : List ℕ). l ++ rest) two-is ∙ ap (λ (l : List ℕ). (l ++ groups first.slot) ++ rest) one-is ∙ simp append_assoc whole

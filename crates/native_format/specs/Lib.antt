@@ -1,0 +1,6 @@
+pub mod Uint
+pub mod Nibbles
+pub mod NibbleSteps
+pub mod Sparse
+pub mod SparseBytes
+pub mod SparseSteps

@@ -1,0 +1,23 @@
+//! Native integers, sparse arrays and nibble lists, the leaves of the ReadyToRun part, read and written.
+//!
+//! Each format has one definition in `specs/`, and a reader and a writer that are proved against it.
+#![tactic(auto)]
+
+mod nibble_reader;
+mod nibble_writer;
+mod nibbles;
+mod sparse;
+mod sparse_reader;
+mod sparse_writer;
+mod uint;
+
+pub use nibble_reader::read_nibbles;
+pub use nibble_writer::{fewest_groups, write_nibbles};
+pub use nibbles::{ListRefusal, SlotRef};
+pub use sparse::Element;
+pub use sparse_reader::SparseArray;
+pub use sparse_writer::write_sparse;
+pub use uint::{no_spelling_begins_another, read_uint, shortest_spelling, write_uint};
+
+#[cfg(test)]
+mod tests;

@@ -1,0 +1,105 @@
+//! The reader of nibble lists.
+
+ghost use Rattle.std.specs.Prelude.{◌≡◌, ◌≤◌, ◌<◌, ◌^◌, ◌*◌, List, Some, slice_index, drop, length, IfOk, MatchOption};
+ghost use Rattle.std.specs.List.{AllByRecursion};
+ghost use Rattle.native_format.specs.declared.nibbles.SlotRef.{SlotRef as Slot};
+ghost use Rattle.native_format.specs.Nibbles.{BeginsWithList, FitsWords, GivesList, list_at, nibbles, slots_behind, slots_of};
+ghost use Rattle.native_format.specs.NibbleSteps.{IsLost, ReadsFirst, ReadsNext, ReadsNumber, numbers_from};
+
+use crate::nibbles::{ListRefusal, Next, SlotRef};
+use std::alloc::Global;
+
+fn nibble_at(bytes: &[u8], at: usize) -> u8
+    requires small { length bytes.now ≤ 2 ^ 31 }
+    requires within { at < 2 * length bytes.now }
+    ensures value { result ≡ slice_index (nibbles bytes.now) at }
+    ensures narrow { result < 16 }
+{
+    let byte = bytes[at / 2];
+    if at % 2 == 0 { byte % 16 } else { byte / 16 }
+}
+
+/// The number from a nibble on, and the place of the nibble after it.
+fn number_at(bytes: &[u8], start: usize) -> Option<(u32, usize)>
+    requires { length bytes.now ≤ 2 ^ 31 }
+    ensures { MatchOption result (IsLost (numbers_from bytes.now start)) (λ read. ReadsNumber bytes.now start read.0 read.1) }
+{
+    let mut value: u64 = 0;
+    let mut at = start;
+    while at < 2 * bytes.len() {
+        let nibble = nibble_at(bytes, at);
+        value = value * 8 + (nibble % 8) as u64;
+        at += 1;
+        if value > 0xFFFF_FFFF {
+            return None;
+        }
+        if nibble < 8 {
+            return Some((value as u32, at));
+        }
+    }
+    None
+}
+
+fn first_slot(bytes: &[u8], start: usize) -> Option<(SlotRef, usize)>
+    requires { length bytes.now ≤ 2 ^ 31 }
+    ensures { ReadsFirst bytes.now (slots_of (numbers_from bytes.now start)) start result }
+{
+    let (section, at) = number_at(bytes, start)?;
+    let (slot, at) = number_at(bytes, at)?;
+    Some((SlotRef { section, slot }, at))
+}
+
+fn next_slot(bytes: &[u8], start: usize, last: SlotRef) -> Option<Next>
+    requires { length bytes.now ≤ 2 ^ 31 }
+    ensures { ReadsNext bytes.now (slots_behind last (numbers_from bytes.now start)) start result }
+{
+    let (distance, at) = number_at(bytes, start)?;
+    if distance > 0 {
+        let section = last.section;
+        let slot = last.slot.checked_add(distance)?;
+        return Some(Next::Slot(SlotRef { section, slot }, at));
+    }
+    let (distance, at) = number_at(bytes, at)?;
+    if distance == 0 {
+        return Some(Next::End);
+    }
+    let section = last.section.checked_add(distance)?;
+    let (slot, at) = number_at(bytes, at)?;
+    Some(Next::Slot(SlotRef { section, slot }, at))
+}
+
+fn list_from(alloc: Global, bytes: &[u8], at: u32) -> Result<Vec<SlotRef>, ListRefusal>
+    requires { length bytes.now ≤ 2 ^ 31 }
+    ensures { GivesList result (list_at bytes.now at) }
+{
+    let Some((first, mut place)) = first_slot(bytes, 2 * at as usize) else {
+        return Err(ListRefusal::Malformed);
+    };
+    let mut list = Vec::new(alloc);
+    list.push(first)?;
+    let mut last = first;
+    'slots: loop {
+        match next_slot(bytes, place, last) {
+            None => return Err(ListRefusal::Malformed),
+            Some(Next::End) => return Ok(list),
+            Some(Next::Slot(slot, after)) => {
+                list.push(slot)?;
+                last = slot;
+                place = after;
+            }
+        }
+    }
+}
+
+/// The list of slots whose nibbles begin at a place. Numbers with leading zero groups are read too.
+/// `Malformed` exactly where the stream is cut, or a number or a sum passes 32 bits.
+pub fn read_nibbles(alloc: Global, bytes: &[u8], at: u32) -> Result<Vec<SlotRef>, ListRefusal>
+    requires { length bytes.now ≤ 2 ^ 31 }
+    // What is read is spelled there, and what is spelled there is read, unless memory runs out.
+    ensures found { IfOk result (λ v. BeginsWithList (drop at bytes.now) v.items) }
+    ensures only { (list : List Slot) → AllByRecursion FitsWords list → BeginsWithList (drop at bytes.now) list → GivesList result (Some list) }
+    // The same, as a function of the bytes.
+    ensures exact { GivesList result (list_at bytes.now at) }
+{
+    list_from(alloc, bytes, at)
+}

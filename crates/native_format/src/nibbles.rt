@@ -1,0 +1,44 @@
+//! Lists of import slots, spelled as nibbles.
+
+ghost use Rattle.std.specs.Prelude.{◌≡◌};
+ghost use Rattle.native_format.specs.declared.nibbles.ListRefusal.TheVariants as refusals;
+
+use std::alloc::AllocFailed;
+use thiserror::Error;
+
+/// A slot of an import section.
+#[derive(Clone, Copy, Debug, PartialEq, Eq)]
+pub struct SlotRef {
+    /// The number of the import section, from 0.
+    pub section: u32,
+    /// The number of the slot in the section, from 0.
+    pub slot: u32,
+}
+
+/// Why no list was read.
+#[derive(Clone, Copy, Debug, PartialEq, Eq, Error)]
+pub enum ListRefusal {
+    /// The stream is cut, or a number or a sum in it passes 32 bits.
+    #[error("malformed list of slots")]
+    Malformed,
+    /// Memory was refused.
+    #[error("out of memory")]
+    NoMemory,
+}
+
+impl<T: Drop> From<AllocFailed<T>> for ListRefusal {
+    ghost from_gives = { λ _ e. e ≡ refusals.NoMemory };
+
+    fn from(_e: AllocFailed<T>) -> ListRefusal {
+        ListRefusal::NoMemory
+    }
+}
+
+/// What stands in a list behind one of its slots.
+#[derive(Clone, Copy)]
+pub(crate) enum Next {
+    /// Another slot, and the place of the nibble after it.
+    Slot(SlotRef, usize),
+    /// Nothing: the list ends.
+    End,
+}

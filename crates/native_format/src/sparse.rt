@@ -1,0 +1,23 @@
+//! Elements of sparse arrays, and what is asked of a node.
+
+use rtr_bytes::Sequence;
+
+/// Where a node of a block's tree leads.
+#[derive(Clone, Copy)]
+pub(crate) enum Step {
+    /// To a node or, after the last bit, to the content.
+    Child(u32),
+    /// To the content of a single element.
+    Content(u32),
+    /// Nowhere.
+    Absent,
+}
+
+/// An element of a sparse array that is written.
+#[derive(Debug, Drop)]
+pub struct Element {
+    /// Its index, below the array's count.
+    pub index: u32,
+    /// Its content, byte for byte.
+    pub content: Sequence<u8>,
+}

@@ -1,0 +1,227 @@
+//! The writer of sparse arrays.
+
+ghost use Rattle.std.specs.Prelude.{◌≡◌, ◌≤◌, ◌<◌, ◌^◌, ◌+◌, ◌*◌, ◌++◌, [], List, ℕ, Option, None, length, map, unwrap_or, IfOk, IfSome, OnOk};
+ghost use Rattle.std.specs.Option.{option_copied, option_map};
+ghost use Rattle.native_format.specs.Uint.{short_uint};
+ghost use Rattle.native_format.specs.Sparse.{weights};
+ghost use Rattle.native_format.specs.SparseBytes.{AreElements, HoldsElements, block_bytes, blocks, content_of, fork_number, index_bytes, joined, slots_from, sparse_bytes, tree};
+ghost use Rattle.native_format.specs.SparseSteps.{AreSlots, SameFrom, IsSmall, IsShort, contents, head_of_node, length_of_node};
+
+use crate::sparse::Element;
+use crate::uint::write_uint;
+use rtr_bytes::NoMemory;
+use std::alloc::Global;
+
+/// The content of the element of one index, where it has one.
+type Slot<'a> = Option<&'a [u8]>;
+
+/// The weights of the bits of an element's number in its block, from the root of the tree down.
+const WEIGHTS: [usize; 4] = [8, 4, 2, 1];
+
+/// How many bytes the shortest spelling of a native integer has.
+#[tactic(auto, unfolding(crate::specs::Uint::short_uint))]
+fn short_size(value: u32) -> u32
+    ensures { result ≡ length (short_uint value) }
+{
+    if value < 1 << 7 {
+        1
+    } else if value < 1 << 14 {
+        2
+    } else if value < 1 << 21 {
+        3
+    } else if value < 1 << 28 {
+        4
+    } else {
+        5
+    }
+}
+
+/// The number of a node with two children, of which the first has so many bytes.
+#[tactic(auto, unfolding(crate::specs::SparseBytes::fork_number))]
+fn fork_of(low: u32) -> u32
+    requires { low < 2 ^ 24 }
+    ensures { result ≡ fork_number low }
+{
+    let shortest = 4 * low + 7;
+    if shortest < 1 << 7 {
+        shortest
+    } else if shortest + 4 < 1 << 14 {
+        shortest + 4
+    } else if shortest + 8 < 1 << 21 {
+        shortest + 8
+    } else {
+        shortest + 12
+    }
+}
+
+/// How many bytes a node has with the trees below it, by how many each of them has.
+fn node_len(low: Option<u32>, high: Option<u32>) -> Option<u32>
+    requires { IsShort (length_of_node low high) }
+    ensures { result ≡ length_of_node low high }
+{
+    match (low, high) {
+        (None, None) => None,
+        (Some(low), None) => Some(1 + low),
+        (None, Some(high)) => Some(1 + high),
+        (Some(low), Some(high)) => Some(short_size(fork_of(low)) + (low + high)),
+    }
+}
+
+/// How many bytes the tree over these slots has. The weights are those of the bits that are left.
+fn tree_len(lower: &[usize], slots: &[Slot<'_>]) -> Option<u32>
+    requires wide { AreSlots lower.now (length slots.now) }
+    requires small { IsSmall (tree lower.now (contents slots.now)) }
+    ensures { result ≡ option_map length (tree lower.now (contents slots.now)) }
+{
+    let [weight, lower @ ..] = lower else {
+        return content_len(slots[0]);
+    };
+    let low = tree_len(lower, &slots[..*weight]);
+    let high = tree_len(lower, &slots[*weight..]);
+    node_len(low, high)
+}
+
+fn content_len(slot: Slot<'_>) -> Option<u32>
+    requires { IsSmall (option_copied slot) }
+    ensures { result ≡ option_map length (option_copied slot.entry) }
+{
+    match slot {
+        None => None,
+        Some(content) => Some(content.len() as u32),
+    }
+}
+
+/// Appends the number of a node with the trees below it, by how many bytes each of them has.
+fn put_node(out: &mut Vec<u8>, low: Option<u32>, high: Option<u32>) -> Result<(), NoMemory>
+    requires { IsShort (length_of_node low high) }
+    ensures { OnOk result (out.new.items ≡ out.old.items ++ head_of_node low high) }
+{
+    match (low, high) {
+        (None, None) => {}
+        (Some(_), None) => write_uint(out, 1)?,
+        (None, Some(_)) => write_uint(out, 6)?,
+        (Some(len), Some(_)) => write_uint(out, fork_of(len))?,
+    }
+    Ok(())
+}
+
+/// Appends the tree over these slots, or nothing where no slot has a content.
+fn put_tree(out: &mut Vec<u8>, lower: &[usize], slots: &[Slot<'_>]) -> Result<(), NoMemory>
+    requires wide { AreSlots lower.now (length slots.now) }
+    requires small { IsSmall (tree lower.now (contents slots.now)) }
+    ensures { OnOk result (out.new.items ≡ out.old.items ++ unwrap_or (tree lower.now (contents slots.now)) []) }
+{
+    let [weight, lower @ ..] = lower else {
+        put_content(out, slots[0])?;
+        return Ok(());
+    };
+    let low = &slots[..*weight];
+    let high = &slots[*weight..];
+    put_node(out, tree_len(lower, low), tree_len(lower, high))?;
+    put_tree(out, lower, low)?;
+    put_tree(out, lower, high)?;
+    Ok(())
+}
+
+fn put_content(out: &mut Vec<u8>, slot: Slot<'_>) -> Result<(), NoMemory>
+    ensures { OnOk result (out.new.items ≡ out.old.items ++ unwrap_or (option_copied slot.entry) []) }
+{
+    if let Some(content) = slot {
+        out.extend_from_slice(content)?;
+    }
+    Ok(())
+}
+
+fn put_block(out: &mut Vec<u8>, slots: &[Slot<'_>]) -> Result<(), NoMemory>
+    requires wide { length slots.now ≡ 16 }
+    requires small { IsSmall (tree weights (contents slots.now)) }
+    ensures { OnOk result (out.new.items ≡ out.old.items ++ block_bytes (contents slots.now)) }
+{
+    match tree_len(&WEIGHTS, slots) {
+        None => write_uint(out, 64)?,
+        Some(_) => put_tree(out, &WEIGHTS, slots)?,
+    }
+    Ok(())
+}
+
+/// The content of the first of the elements, where that is the one of the index.
+fn first_slot(elements: &[Element], index: u32) -> Slot<'_>
+    requires { AreElements index (2 ^ 32) elements.now }
+    ensures { option_copied result ≡ content_of elements.now index }
+{
+    let first = elements.first()?;
+    if first.index == index {
+        Some(first.content.as_slice())
+    } else {
+        None
+    }
+}
+
+/// The slot of an index, and the elements behind it.
+fn next_slot(elements: &[Element], index: u32) -> (Slot<'_>, &[Element])
+    requires { AreElements index (2 ^ 32) elements.now }
+    ensures slot { option_copied result.0 ≡ content_of elements.now index }
+    ensures elements { AreElements (index + 1) (2 ^ 32) result.1.now }
+    ensures others { SameFrom (index + 1) elements.now result.1.now }
+{
+    match first_slot(elements, index) {
+        Some(content) => (Some(content), elements.split_at(1).1),
+        None => (None, elements),
+    }
+}
+
+/// The slots of sixteen indexes from a first one on, and the elements behind them.
+fn block_slots(elements: &[Element], first: u32) -> ([Slot<'_>; 16], &[Element])
+    requires elements { AreElements first (2 ^ 32) elements.now }
+    requires room { first + 16 < 2 ^ 32 }
+    ensures slots { contents result.0 ≡ slots_from elements.now first 16 }
+    ensures elements { AreElements (first + 16) (2 ^ 32) result.1.now }
+    ensures others { SameFrom (first + 16) elements.now result.1.now }
+{
+    let mut slots = [None; 16];
+    let mut rest = elements;
+    for i in 0..16u32 {
+        let (slot, behind) = next_slot(rest, first + i);
+        slots[i as usize] = slot;
+        rest = behind;
+    }
+    (slots, rest)
+}
+
+/// The block index, of so many entries, and the blocks behind it.
+fn lay_out(alloc: Global, count: u32, elements: &[Element]) -> Result<(Vec<u8>, Vec<u8>), NoMemory>
+    requires elements { AreElements 0 (2 ^ 32) elements.now }
+    requires few { count < 2 ^ 22 }
+    requires small { length (joined (blocks elements.now count)) < 2 ^ 24 }
+    ensures index { IfOk result (λ parts. parts.0.items ≡ index_bytes (4 * count) (blocks elements.now count)) }
+    ensures blocks { IfOk result (λ parts. parts.1.items ≡ joined (blocks elements.now count)) }
+{
+    let mut index = Vec::new(alloc);
+    let mut body = Vec::new(alloc);
+    let mut rest = elements;
+    for k in 0..count {
+        let (slots, behind) = block_slots(rest, 16 * k);
+        let place = 4 * count + body.len() as u32;
+        index.extend_from_slice(&place.to_le_bytes())?;
+        put_block(&mut body, &slots)?;
+        rest = behind;
+    }
+    Ok((index, body))
+}
+
+/// The bytes of a sparse array of a count with these elements, and no others. Its index entries have four
+/// bytes, each element's path has all four nodes, and an empty block is the node 64.
+pub fn write_sparse(alloc: Global, count: u32, elements: &[Element]) -> Result<Vec<u8>, NoMemory>
+    requires elements { AreElements 0 count elements.now }
+    requires small { length (sparse_bytes count elements.now) < 2 ^ 24 }
+    ensures exact { IfOk result (λ v. v.items ≡ sparse_bytes count elements.now) }
+    // Whatever follows, the array that is read there has exactly the elements.
+    ensures holds { IfOk result (λ v. (rest : List ℕ) → HoldsElements (v.items ++ rest) count elements.now) }
+{
+    let (index, body) = lay_out(alloc, count.div_ceil(16), elements)?;
+    let mut out = Vec::new(alloc);
+    write_uint(&mut out, 4 * count + 2)?;
+    out.extend_from_slice(&index)?;
+    out.extend_from_slice(&body)?;
+    Ok(out)
+}
