@@ -1,66 +1,64 @@
-//! The rows of the specification's examples, and one file for each check.
+//! The examples of the specification, and one broken file for each check.
 
 use super::*;
-use rtr_bytes::Fault;
 use rtr_outside::{FILE_LIMIT, MemFiles, MemSink, OpenGate, SureFiles, SureSink};
-use std::alloc::{AllocError, Global};
+use std::alloc::Global;
 use std::process::Abort;
 use std::test::Fail;
 use std::thread::Threads;
 
-/// A piece of a file: a place, and the bytes from there on.
-type Piece = (usize, &'static [u8]);
+/// The least file that is well formed, of 1,024 bytes, zeros but for these: a place, and from there on bytes in
+/// hexadecimal. PE32+ for A64, one section, a CLI header and 20 bytes of metadata.
+const LEAST: &str =
+    "@0 4d5a @60 40 @64 50450000 64aa01 @84 f000 @88 0b02 @196 10 @312 0010000048 @328 2e74657874 @336 0002 @340 0010 @344 0002 @348 0002 @512 48 @520 4810000014 @528 01";
 
-/// A file of zeros but for some pieces, which come in order of their places.
-fn file_of(alloc: Global, len: usize, pieces: &[Piece]) -> Result<Vec<u8>, AllocError> {
-    let mut bytes = Vec::new(alloc);
-    for (place, piece) in pieces {
-        bytes.resize(*place, 0)?;
-        bytes.extend_from_slice(piece)?;
-    }
-    bytes.resize(len, 0)?;
-    Ok(bytes)
-}
+const LEAST_TEXT: &str =
+    "file T 1024\nmachine aa64 magic 020b\n.text rva 00001000 size 00000200 file 00000200 raw 00000200\ncli flags 00000001 entry 00000000\nnative none\n";
 
-/// The least file that is well formed: PE32+ for A64, one section, a CLI header and 20 bytes of metadata.
-const LEAST: [Piece; 18] = [
-    (0, b"MZ"),
-    (60, &[64, 0, 0, 0]),
-    (64, b"PE\0\0"),
-    (68, &[0x64, 0xAA]),
-    (70, &[1, 0]),
-    (84, &[240, 0]),
-    (88, &[0x0B, 0x02]),
-    (196, &[16, 0, 0, 0]),
-    (312, &[0, 0x10, 0, 0, 72, 0, 0, 0]),
-    (328, b".text"),
-    (336, &[0, 2, 0, 0]),
-    (340, &[0, 0x10, 0, 0]),
-    (344, &[0, 2, 0, 0]),
-    (348, &[0, 2, 0, 0]),
-    (512, &[72, 0, 0, 0]),
-    (520, &[0x48, 0x10, 0, 0]),
-    (524, &[20, 0, 0, 0]),
-    (528, &[1, 0, 0, 0]),
-];
+/// A native header of version 5.0 without section records, and a section's name with odd bytes.
+const FOREIGN: &str = "@576 0011000010 @768 525452000500 @328 0020747f00";
 
-/// The same with some bytes written over it, at their places.
-fn least_with(alloc: Global, len: usize, changes: &[Piece]) -> Result<Vec<u8>, AllocError> {
-    let mut bytes = file_of(alloc, len, &LEAST)?;
-    for (place, change) in changes {
-        let mut at = *place;
-        for byte in *change {
-            if let Some(old) = bytes.get_mut(at) {
-                *old = *byte;
+const FOREIGN_TEXT: &str =
+    "file T 1024\nmachine aa64 magic 020b\n??t? rva 00001000 size 00000200 file 00000200 raw 00000200\ncli flags 00000001 entry 00000000\nnative foreign 5.0 flags 00000000 sections 0\n";
+
+/// A native header of this compiler, with two section records.
+const OWN: &str =
+    "@576 0011000010 @768 5254520005000000070000000200000064000000501100000e000000760000000102030405060708 @848 7232722070726f66696c65203100";
+
+const OWN_TEXT: &str =
+    "file T 1024\nmachine aa64 magic 020b\n.text rva 00001000 size 00000200 file 00000200 raw 00000200\ncli flags 00000001 entry 00000000\nnative own 5.0 flags 00000007 sections 2\nrtr 100 rva 00001150 size 0000000e\nrtr 118 rva 04030201 size 08070605\n";
+
+const USAGE_LINE: &str =
+    "usage: r2r compile IN -o OUT [--ref F].. [--fields cell|burn] | run IMAGE [--ref F].. [--entry T::M] [--worker A,B].. [--ticks N] [--cells] | dump FILE | big N\n";
+
+/// A file of zeros with pieces written over it in order: a place behind `@`, and bytes in hexadecimal.
+fn file_of(alloc: Global, len: usize, pieces: &[&str]) -> Result<Vec<u8>, Fail> {
+    let mut bytes = vec![in alloc; 0u8; len]?;
+    for piece in pieces {
+        let mut at = 0;
+        for word in piece.split_whitespace() {
+            match word.strip_prefix('@') {
+                Some(place) => at = place.parse::<usize>()?,
+                None => at = put_hex(alloc, &mut bytes, at, word)?,
             }
-            at = at.saturating_add(1);
         }
     }
     Ok(bytes)
 }
 
+/// Writes bytes from a place on, and answers the place behind them.
+fn put_hex(alloc: Global, bytes: &mut [u8], mut at: usize, word: &str) -> Result<usize, Fail> {
+    for byte in &hex::decode(alloc, word)? {
+        if let Some(old) = bytes.get_mut(at) {
+            *old = *byte;
+        }
+        at = at.saturating_add(1);
+    }
+    Ok(at)
+}
+
 /// The words of a command line.
-fn words_of(alloc: Global, line: &str) -> Result<Vec<String>, AllocError> {
+fn words_of(alloc: Global, line: &str) -> Result<Vec<String>, Fail> {
     let mut words = Vec::new(alloc);
     for word in line.split_whitespace() {
         words.push(String::from_str(alloc, word)?)?;
@@ -68,210 +66,110 @@ fn words_of(alloc: Global, line: &str) -> Result<Vec<String>, AllocError> {
     Ok(words)
 }
 
-/// One named file.
-fn one_file(
-    alloc: Global,
-    name: &str,
-    bytes: Vec<u8>,
-) -> Result<Vec<(String, Vec<u8>)>, AllocError> {
+/// Files with one of this name.
+fn one_file(alloc: Global, name: &str, bytes: Vec<u8>) -> Result<MemFiles, Fail> {
     let mut files = Vec::new(alloc);
     files.push((String::from_str(alloc, name)?, bytes))?;
-    Ok(files)
+    Ok(MemFiles::new(alloc, files, Vec::new(alloc)))
 }
 
-/// A command line over one file of a name, the status that it ends with, and what it writes.
-#[derive(Clone, Copy)]
-struct Row<'a> {
-    line: &'a str,
-    name: &'a str,
+/// Runs a command line over a file T, and expects a status and what is written.
+fn expect<R: Threads + Sync + Abort>(
+    rt: &R,
+    alloc: Global,
+    line: &str,
+    bytes: Vec<u8>,
     status: u8,
-    text: &'a str,
+    text: &str,
+) -> Result<(), Fail> {
+    let mut files = one_file(alloc, "T", bytes)?;
+    let mut out = MemSink::new(alloc, 1_000, Vec::new(alloc))?;
+    let words = words_of(alloc, line)?;
+    let ended = r2r(rt, alloc, &words, &mut files, &mut out, &OpenGate);
+    assert_eq!(rt; ended, status, "{line}");
+    assert_eq!(rt; out.bytes(), text.as_bytes(), "{line}");
+    Ok(())
 }
-
-impl Row<'_> {
-    fn expect<R: Threads + Sync + Abort>(
-        &self,
-        rt: &R,
-        alloc: Global,
-        bytes: Vec<u8>,
-    ) -> Result<(), Fail> {
-        let mut files = MemFiles::new(alloc, one_file(alloc, self.name, bytes)?, Vec::new(alloc));
-        let mut out = MemSink::new(alloc, 10_000, Vec::new(alloc))?;
-        let words = words_of(alloc, self.line)?;
-        let line = self.line;
-        let status = r2r(rt, alloc, &words, &mut files, &mut out, &OpenGate);
-        assert_eq!(rt; status, self.status, "{line}");
-        assert_eq!(rt; out.bytes(), self.text.as_bytes(), "{line}");
-        Ok(())
-    }
-}
-
-/// A dump of the file T that ends with 0.
-fn dumped(text: &str) -> Row<'_> {
-    Row {
-        line: "dump T",
-        name: "T",
-        status: 0,
-        text,
-    }
-}
-
-const USAGE_LINE: &str =
-    "usage: r2r compile IN -o OUT [--ref F].. [--fields cell|burn] | run IMAGE [--ref F].. [--entry T::M] [--worker A,B].. [--ticks N] [--cells] | dump FILE | big N\n";
-
-const LEAST_TEXT: &str =
-    "file T 1024\nmachine aa64 magic 020b\n.text rva 00001000 size 00000200 file 00000200 raw 00000200\ncli flags 00000001 entry 00000000\nnative none\n";
 
 #[test]
 fn words_that_are_no_command(rt: HostRuntime) -> Result<(), Fail> {
-    let workers =
-        "run A --worker - --worker - --worker - --worker - --worker - --worker - --worker - --worker - --worker - --worker - --worker - --worker - --worker - --worker - --worker - --worker - --worker -";
-    for line in [
-        "",
-        "run",
-        "run A --ticks 01",
-        workers,
-        "dump",
-        "dump A B",
-        "dump -x",
-        "big 3",
-        "DUMP T",
-    ] {
-        Row {
-            line,
-            name: "T",
-            status: 1,
-            text: USAGE_LINE,
-        }
-        .expect(&rt, rt.alloc(), Vec::new(rt.alloc()))?;
+    let alloc = rt.alloc();
+    let mut lines = "|run|run A --ticks 01|dump|dump A B|dump -x|DUMP T|big 3".split('|');
+    for line in &mut lines {
+        expect(&rt, alloc, line, Vec::new(alloc), 1, USAGE_LINE)?;
     }
-    Ok(())
+    let mut workers = String::from_str(alloc, "run A")?;
+    for _ in 0..17 {
+        workers.push_str(" --worker -")?;
+    }
+    expect(&rt, alloc, workers.as_str(), Vec::new(alloc), 1, USAGE_LINE)
 }
 
 #[test]
 fn well_formed_files(rt: HostRuntime) -> Result<(), Fail> {
     let alloc = rt.alloc();
-    dumped(LEAST_TEXT).expect(&rt, alloc, least_with(alloc, 1024, &[])?)?;
-    let foreign: [Piece; 4] = [
-        (576, &[0, 0x11, 0, 0, 16, 0, 0, 0]),
-        (768, b"RTR\0"),
-        (772, &[5, 0]),
-        (328, b"\0 t\x7F\0\0"),
-    ];
-    let text =
-        "file T 1024\nmachine aa64 magic 020b\n??t? rva 00001000 size 00000200 file 00000200 raw 00000200\ncli flags 00000001 entry 00000000\nnative foreign 5.0 flags 00000000 sections 0\n";
-    dumped(text).expect(&rt, alloc, least_with(alloc, 1024, &foreign)?)?;
-    let own: [Piece; 5] = [
-        (576, &[0, 0x11, 0, 0, 16, 0, 0, 0]),
-        (768, b"RTR\0\x05\0\0\0\x07\0\0\0\x02\0\0\0"),
-        (784, &[100, 0, 0, 0, 0x50, 0x11, 0, 0, 14, 0, 0, 0]),
-        (796, &[118, 0, 0, 0, 1, 2, 3, 4, 5, 6, 7, 8]),
-        (848, b"r2r profile 1\0"),
-    ];
-    let text =
-        "file T 1024\nmachine aa64 magic 020b\n.text rva 00001000 size 00000200 file 00000200 raw 00000200\ncli flags 00000001 entry 00000000\nnative own 5.0 flags 00000007 sections 2\nrtr 100 rva 00001150 size 0000000e\nrtr 118 rva 04030201 size 08070605\n";
-    dumped(text).expect(&rt, alloc, least_with(alloc, 1024, &own)?)
+    expect(
+        &rt,
+        alloc,
+        "dump T",
+        file_of(alloc, 1024, &[LEAST])?,
+        0,
+        LEAST_TEXT,
+    )?;
+    expect(
+        &rt,
+        alloc,
+        "dump T",
+        file_of(alloc, 1024, &[LEAST, FOREIGN])?,
+        0,
+        FOREIGN_TEXT,
+    )?;
+    expect(
+        &rt,
+        alloc,
+        "dump T",
+        file_of(alloc, 1024, &[LEAST, OWN])?,
+        0,
+        OWN_TEXT,
+    )
 }
 
-/// A change of the least file, the length to which the file is cut, and the check that fails then with its place.
-#[derive(Clone, Copy)]
-struct Broken {
-    change: Piece,
-    len: usize,
-    fault: Fault,
-}
-
-fn with_change(place: usize, bytes: &'static [u8], check: u16, at: u32) -> Broken {
-    Broken {
-        change: (place, bytes),
-        len: 1024,
-        fault: Fault { check, place: at },
-    }
-}
-
-/// A native header at 768 with two records behind it.
-const NATIVE: [Piece; 2] = [
-    (576, &[0, 0x11, 0, 0, 16, 0, 0, 0]),
-    (
-        768,
-        b"RTR\0\x05\0\0\0\0\0\0\0\x02\0\0\0\x05\0\0\0\0\0\0\0\0\0\0\0\x65\0\0\0",
-    ),
-];
-
-fn expect_fault<R: Threads + Sync + Abort>(
-    rt: &R,
-    alloc: Global,
-    bytes: Vec<u8>,
-    fault: Fault,
-) -> Result<(), Fail> {
-    let check = fault.check;
-    let place = fault.place;
-    let text = format!(in alloc; "malformed: T check {check} at {place}\n")?;
-    Row {
-        line: "dump T",
-        name: "T",
-        status: 3,
-        text: text.as_str(),
-    }
-    .expect(rt, alloc, bytes)
-}
+/// Changes of the least file, each with the check that fails then and its place.
+const BROKEN: &str = "@0 4e = check 2 at 0
+@60 e903 = check 3 at 60
+@67 50 = check 4 at 64
+@84 a903 = check 6 at 84
+@88 0b03 = check 7 at 88
+@84 e7 = check 8 at 84
+@196 0e = check 9 at 196
+@70 12 = check 10 at 70
+@344 0102 = check 11 at 348
+@316 47 = check 12 at 312
+@313 30 = check 12 at 312
+@512 47 = check 13 at 512
+@521 30 = check 14 at 520
+@576 0050000010 = check 16 at 576
+@580 01 = check 16 at 576
+@576 0011000010 = check 17 at 768
+@576 0011000010 @768 525452000500 @780 64 = check 18 at 780
+@576 0011000010 @768 525452000500 @780 02 @784 05 @796 05 = check 19 at 796
+@576 0011000010 @768 525452000500 @780 02 @784 05 @796 65 @800 0090000001 = check 20 at 800
+@344 0102 @512 47 = check 11 at 348";
 
 #[test]
-fn each_check_of_the_headers(rt: HostRuntime) -> Result<(), Fail> {
-    let table = [
-        Broken {
-            change: (0, b""),
-            len: 63,
-            fault: Fault {
-                check: 1,
-                place: 63,
-            },
-        },
-        with_change(0, b"N", 2, 0),
-        with_change(60, &[0xE9, 3], 3, 60),
-        with_change(67, b"P", 4, 64),
-        with_change(84, &[0xA9, 3], 6, 84),
-        with_change(88, &[0x0B, 3], 7, 88),
-        with_change(84, &[231, 0], 8, 84),
-        with_change(196, &[14], 9, 196),
-        with_change(70, &[18, 0], 10, 70),
-        with_change(344, &[1, 2], 11, 348),
-        with_change(316, &[71], 12, 312),
-        with_change(313, &[0x30], 12, 312),
-        with_change(512, &[71], 13, 512),
-        with_change(521, &[0x30], 14, 520),
-        with_change(576, &[0, 0x50, 0, 0, 16], 16, 576),
-        with_change(580, &[1], 16, 576),
-        with_change(576, &[0, 0x11, 0, 0, 16], 17, 768),
-        Broken {
-            change: (0, b""),
-            len: 100,
-            fault: Fault {
-                check: 6,
-                place: 84,
-            },
-        },
-    ];
-    for case in &table {
-        let mut bytes = least_with(rt.alloc(), 1024, &[case.change])?;
-        bytes.truncate(case.len);
-        expect_fault(&rt, rt.alloc(), bytes, case.fault)?;
-    }
-    Ok(())
-}
-
-#[test]
-fn each_check_of_the_native_header(rt: HostRuntime) -> Result<(), Fail> {
+fn broken_files(rt: HostRuntime) -> Result<(), Fail> {
     let alloc = rt.alloc();
-    let [native, header] = NATIVE;
-    let table = [
-        with_change(780, &[100], 18, 780),
-        with_change(796, &[5], 19, 796),
-        with_change(800, &[0, 0x90, 0, 0, 1], 20, 800),
-    ];
-    for case in &table {
-        let bytes = least_with(alloc, 1024, &[native, header, case.change])?;
-        expect_fault(&rt, rt.alloc(), bytes, case.fault)?;
+    for row in BROKEN.split('\n') {
+        let (change, fault) = row.split_once(" = ").ok_or("a row has two parts")?;
+        let text = format!(in alloc; "malformed: T {fault}\n")?;
+        expect(
+            &rt,
+            alloc,
+            "dump T",
+            file_of(alloc, 1024, &[LEAST, change])?,
+            3,
+            text.as_str(),
+        )?;
     }
     Ok(())
 }
@@ -279,73 +177,75 @@ fn each_check_of_the_native_header(rt: HostRuntime) -> Result<(), Fail> {
 #[test]
 fn files_that_are_cut(rt: HostRuntime) -> Result<(), Fail> {
     let alloc = rt.alloc();
-    Row {
-        line: "dump E",
-        name: "E",
-        status: 3,
-        text: "malformed: E check 1 at 0\n",
-    }
-    .expect(&rt, alloc, Vec::new(alloc))?;
-    let narrow: [Piece; 7] = [
-        (0, b"MZ"),
-        (60, &[128]),
-        (128, b"PE\0\0"),
-        (134, &[3]),
-        (148, &[224]),
-        (152, &[0x0B, 1]),
-        (244, &[16]),
-    ];
-    expect_fault(
+    expect(
         &rt,
         alloc,
-        file_of(alloc, 400, &narrow)?,
-        Fault {
-            check: 10,
-            place: 134,
-        },
+        "dump T",
+        Vec::new(alloc),
+        3,
+        "malformed: T check 1 at 0\n",
+    )?;
+    expect(
+        &rt,
+        alloc,
+        "dump T",
+        file_of(alloc, 63, &[LEAST])?,
+        3,
+        "malformed: T check 1 at 63\n",
+    )?;
+    expect(
+        &rt,
+        alloc,
+        "dump T",
+        file_of(alloc, 100, &[LEAST])?,
+        3,
+        "malformed: T check 6 at 84\n",
+    )?;
+    // PE32, whose three section headers end behind the cut.
+    let narrow = file_of(
+        alloc,
+        400,
+        &["@0 4d5a @60 80 @128 50450000 @134 03 @148 e0 @152 0b01 @244 10"],
+    )?;
+    expect(
+        &rt,
+        alloc,
+        "dump T",
+        narrow,
+        3,
+        "malformed: T check 10 at 134\n",
     )
 }
 
 #[test]
 fn files_that_are_not_read(rt: HostRuntime) -> Result<(), Fail> {
     let alloc = rt.alloc();
-    let least = least_with(alloc, 1024, &[])?;
-    Row {
-        line: "dump X",
-        name: "T",
-        status: 2,
-        text: "read failed: X\n",
-    }
-    .expect(&rt, alloc, least)?;
+    expect(
+        &rt,
+        alloc,
+        "dump a\u{1}b",
+        Vec::new(alloc),
+        2,
+        "read failed: a?b\n",
+    )?;
     let long = vec![in alloc; 0u8; FILE_LIMIT + 1]?;
-    Row {
-        line: "dump T",
-        name: "T",
-        status: 4,
-        text: "refused: TooLong T\n",
-    }
-    .expect(&rt, alloc, long)?;
-    let mut files = MemFiles::new(alloc, Vec::new(alloc), Vec::new(alloc));
-    let mut out = MemSink::new(alloc, 4, Vec::new(alloc))?;
-    let words = words_of(alloc, "dump a\u{1}b")?;
-    assert_eq!(rt; r2r(&rt, alloc, &words, &mut files, &mut out, &OpenGate), 2);
-    assert_eq!(rt; out.bytes(), b"read".as_slice());
-    Ok(())
+    expect(&rt, alloc, "dump T", long, 4, "refused: TooLong T\n")
 }
 
 #[test]
 fn outputs_that_fail(rt: HostRuntime) -> Result<(), Fail> {
     let alloc = rt.alloc();
     let words = words_of(alloc, "dump T")?;
-    let mut files = MemFiles::new(
-        alloc,
-        one_file(alloc, "T", least_with(alloc, 1024, &[])?)?,
-        Vec::new(alloc),
-    );
+    let mut files = one_file(alloc, "T", file_of(alloc, 1024, &[LEAST])?)?;
     let mut out = MemSink::new(alloc, 10, Vec::new(alloc))?;
     assert_eq!(rt; r2r(&rt, alloc, &words, &mut files, &mut out, &OpenGate), 5);
     assert_eq!(rt; out.bytes(), b"file T 102".as_slice());
-    let mut sure = SureFiles::new(alloc, one_file(alloc, "T", least_with(alloc, 1024, &[])?)?);
+    // A refusal keeps its status.
+    let mut short = MemSink::new(alloc, 4, Vec::new(alloc))?;
+    assert_eq!(rt; r2r(&rt, alloc, &[], &mut files, &mut short, &OpenGate), 1);
+    assert_eq!(rt; short.bytes(), b"usag".as_slice());
+    // Files that tell nothing read a missing name as empty.
+    let mut sure = SureFiles::new(alloc, Vec::new(alloc));
     assert_eq!(rt;
         r2r(
             &rt,
@@ -355,7 +255,7 @@ fn outputs_that_fail(rt: HostRuntime) -> Result<(), Fail> {
             &mut SureSink::new(),
             &OpenGate
         ),
-        0
+        3
     );
     Ok(())
 }
