@@ -1,2 +1,10 @@
 pub mod Files
 pub mod Sink
+pub mod Calls
+pub mod Counts
+pub mod Named
+pub mod MemFiles
+pub mod MemSink
+pub mod RealFiles
+pub mod RealSink
+pub mod Sure

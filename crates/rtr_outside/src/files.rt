@@ -2,7 +2,10 @@
 
 ghost use Rattle.std.specs.Prelude.{◌≡◌, ◌≢◌, ◌≤◌, List, Option, length, IfOk, OnOk, IsErrOf};
 ghost use Rattle.rtr_outside.specs.Files.{Call, Read, Write, Contents, calls_after, IsToldAs, IsToldLonger, LeavesOthers};
+ghost use Rattle.rtr_outside.specs.declared.files.FileRefusal.TheVariants as refusals;
 
+use rtr_bytes::NoMemory;
+use std::alloc::AllocError;
 use thiserror::Error;
 
 /// The most bytes that a file may have: 16 MiB.
@@ -20,6 +23,22 @@ pub enum FileRefusal {
     /// Memory was refused.
     #[error("out of memory")]
     NoMemory,
+}
+
+impl From<NoMemory> for FileRefusal {
+    ghost from_gives = { λ _ e. e ≡ refusals.NoMemory };
+
+    fn from(_e: NoMemory) -> FileRefusal {
+        FileRefusal::NoMemory
+    }
+}
+
+impl From<AllocError> for FileRefusal {
+    ghost from_gives = { λ _ e. e ≡ refusals.NoMemory };
+
+    fn from(_e: AllocError) -> FileRefusal {
+        FileRefusal::NoMemory
+    }
 }
 
 /// Files by their names.

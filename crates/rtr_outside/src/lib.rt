@@ -2,12 +2,31 @@
 //!
 //! Code that is generic over these traits sees the outside by their ghost members alone. A failed call is one
 //! that the object itself has recorded, so such code cannot make one up.
+//!
+//! There are three of each: [`MemFiles`] and [`MemSink`] in memory, which tell their bytes and fail as they are
+//! told; [`SureFiles`] and [`SureSink`], which never fail and tell nothing; and [`RealFiles`] and [`RealSink`]
+//! of the system, which tell nothing but their failed calls and faults.
 #![tactic(auto)]
 
-mod gate;
+mod calls;
 mod files;
+mod gate;
+mod mem_files;
+mod mem_sink;
+mod named;
+mod real_files;
+mod real_sink;
 mod sink;
+mod sure;
 
 pub use files::{FILE_LIMIT, FileRefusal, Files};
 pub use gate::{Gate, OpenGate};
+pub use mem_files::MemFiles;
+pub use mem_sink::MemSink;
+pub use real_files::RealFiles;
+pub use real_sink::RealSink;
 pub use sink::{Sink, SinkFailed};
+pub use sure::{SureFiles, SureSink};
+
+#[cfg(test)]
+mod tests;
