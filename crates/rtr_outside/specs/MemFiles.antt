@@ -1,12 +1,12 @@
 -- What files in memory are seen as, and when their calls fail.
-use Rattle.std.specs.Prelude.{◌≡◌, ◌⊎◌, ℕ, List, Contains, Result, Ok, Err, refl}
+use Rattle.std.specs.Prelude.{◌≡◌, ◌⊎◌, ℕ, List, Contains, None, Result, Ok, Err, refl}
 use Rattle.std.specs.Coded.{Coded, code_by, coded×, coded⊎, coded_ℕ, coded_list}
 use Rattle.std.proofs.Common.{inl, inr}
 use Rattle.rtr_outside.specs.declared.files.FileRefusal.{FileRefusal}
 use Rattle.rtr_outside.specs.declared.files.FileRefusal.TheVariants.{Failed, TooLong, NoMemory}
 use Rattle.rtr_outside.specs.Files.{Call, Read, Write}
 use Rattle.rtr_outside.specs.Counts.{one_more}
-use Rattle.rtr_outside.specs.Named.{FileMap, file_map_code}
+use Rattle.rtr_outside.specs.Named.{FileMap, file_map_code, bytes_of}
 
 pub record FilesInMemory : Type 0 where
   -- the bytes of each name
@@ -21,6 +21,10 @@ pub record FilesInMemory : Type 0 where
 -- the next call is one of those that fail
 abbrev pub IsToFail : FilesInMemory → Type 0
 IsToFail m = Contains m.fails m.calls
+
+-- a read of this name fails: it is one of the calls that fail, or there is no such name
+abbrev pub ReadFails : FilesInMemory → List ℕ → Type 0
+ReadFails m name = IsToFail m ⊎ (bytes_of m.files name ≡ None)
 
 -- the number of the next call, where this one gave its answer: a call that finds no memory isn't counted
 abbrev pub number_after : {T : Type 0} → Result T FileRefusal → ℕ → ℕ

@@ -1,12 +1,12 @@
 //! Files in memory that tell their bytes, and fail as they are told.
 
-ghost use Rattle.std.specs.Prelude.{◌≡◌, ◌≢◌, ◌≤◌, ◌⊎◌, ◌↔◌, [], ◌∷◌, ◌++◌, Some, None, if◌then◌else◌, is_ok, length, IsTrue, OnOk, OnErr, IfOk, IsErrOf};
+ghost use Rattle.std.specs.Prelude.{◌≡◌, ◌≢◌, ◌≤◌, ◌↔◌, [], ◌∷◌, ◌++◌, Some, if◌then◌else◌, is_ok, length, IsTrue, OnOk, OnErr, IfOk, IsErrOf};
 ghost use Rattle.std.specs.Option.{option_copied};
 ghost use Rattle.rtr_outside.specs.Files.{Read, Write, calls_after, IsToldLonger};
 ghost use Rattle.rtr_outside.specs.Named.{bytes_of, with_file, file_map};
 ghost use Rattle.rtr_outside.specs.Calls.{call};
 ghost use Rattle.rtr_outside.specs.Counts.{one_more};
-ghost use Rattle.rtr_outside.specs.MemFiles.{IsToFail, FailsExactlyWhere, number_after};
+ghost use Rattle.rtr_outside.specs.MemFiles.{IsToFail, ReadFails, FailsExactlyWhere, number_after};
 
 use crate::calls::{CallKind, FailedCalls};
 use crate::files::{FILE_LIMIT, FileRefusal, Files};
@@ -35,14 +35,24 @@ impl Model for MemFiles {
 
     ghost coded = { files_code };
 
-    ghost view = { λ m. record { files = m.files; fails = m.fails.items; calls = m.calls; failed = m.failed } };
+    ghost view = { λ m. record {
+      files = m.files;
+      fails = m.fails.items;
+      calls = m.calls;
+      failed = m.failed;
+    } };
 }
 
 impl MemFiles {
     /// The files of these names, of which the calls with the numbers in `fails` fail. Of two files of one name
     /// the first counts. It takes no memory; later calls take theirs from `alloc`.
     pub fn new(alloc: Global, files: Vec<(String, Vec<u8>)>, fails: Vec<u32>) -> MemFiles
-        ensures { result ≡ record { files = file_map files.items; fails = fails.items; calls = 0; failed = [] } }
+        ensures { result ≡ record {
+          files = file_map files.items;
+          fails = fails.items;
+          calls = 0;
+          failed = [];
+        } }
     {
         MemFiles {
             alloc,
@@ -90,10 +100,11 @@ impl Files for MemFiles {
 
     /// Fails exactly where its number is one of those that fail, or there is no such name.
     fn read(&mut self, name: &str) -> Result<Vec<u8>, FileRefusal>
-        ensures fails { FailsExactlyWhere (IsToFail self.old ⊎ (bytes_of self.old.files name.now ≡ None)) result }
+        ensures fails { FailsExactlyWhere (ReadFails self.old name.now) result }
         ensures bytes { IfOk result (λ bytes. bytes_of self.old.files name.now ≡ Some bytes.items) }
         ensures bounded { IfOk result (λ bytes. length bytes.items ≤ FILE_LIMIT) }
-        ensures too_long { IsErrOf result FileRefusal.TooLong → IsToldLonger FILE_LIMIT (Some (bytes_of self.old.files)) name.now }
+        ensures too_long { IsErrOf result FileRefusal.TooLong →
+            IsToldLonger FILE_LIMIT (Some (bytes_of self.old.files)) name.now }
 
         // It is counted, and recorded where it fails. The files are as before.
         ensures after { self.new ≡ record self.old {

@@ -28,7 +28,13 @@ impl Model for MemSink {
 
     ghost Value = { SinkInMemory };
 
-    ghost view = { λ s. record { written = s.written.items; room = s.room; fails = s.fails.items; calls = s.calls; faults = s.faults } };
+    ghost view = { λ s. record {
+      written = s.written.items;
+      room = s.room;
+      fails = s.fails.items;
+      calls = s.calls;
+      faults = s.faults;
+    } };
 
     ghost invariant = { λ s. (vec_len s.written ≤ s.room) × (s.room ≤ vec_capacity s.written) };
 }
@@ -37,7 +43,13 @@ impl MemSink {
     /// An empty sink that takes at most `room` bytes, and of which the writes with the numbers in `fails` fail.
     /// It takes the memory for all of them.
     pub fn new(alloc: Global, room: u32, fails: Vec<u32>) -> Result<MemSink, NoMemory>
-        ensures { IfOk result (λ sink. sink ≡ record { written = []; room = room; fails = fails.items; calls = 0; faults = 0 }) }
+        ensures { IfOk result (λ sink. sink ≡ record {
+          written = [];
+          room = room;
+          fails = fails.items;
+          calls = 0;
+          faults = 0;
+        }) }
     {
         let written = Vec::with_capacity(alloc, room as usize)?;
         Ok(MemSink {
@@ -83,7 +95,7 @@ impl Sink for MemSink {
         ensures fails { IsErr result ↔ IsRefused self.old bytes.now }
         ensures taken { IfOk result (λ taken. taken ≡ min (length bytes.now) (room_left self.old)) }
 
-        // It is counted, and counts as a fault where it fails.
+        // It is counted, and where it fails it is a fault.
         ensures after { self.new ≡ record self.old {
           written = self.old.written ++ take (result_unwrap_or result 0) bytes.now;
           calls = one_more self.old.calls;

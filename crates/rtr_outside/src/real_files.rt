@@ -1,7 +1,8 @@
 //! The files of the system.
 
-ghost use Rattle.std.specs.Prelude.{◌≡◌, ◌≢◌, ◌≤◌, ◌<◌, ℕ, List, [], ◌++◌, None, length, IfOk, IfSome, OnOk, IsErrOf};
-ghost use Rattle.std.specs.Io.KnownBytes.{Appends, Consumes, IsAtEnd};
+ghost use Rattle.std.specs.Prelude.{◌≡◌, ◌≢◌, ◌≤◌, ◌<◌, [], None, length, IfOk, IfSome, OnOk, IsErrOf};
+ghost use Rattle.std.specs.Io.KnownBytes.{Appends, IsAtEnd};
+ghost use Rattle.rtr_outside.specs.RealFiles.{AppendsRead};
 ghost use Rattle.rtr_outside.specs.Files.{Read as read_call, Write as write_call, calls_after};
 
 use crate::calls::{CallKind, FailedCalls};
@@ -107,7 +108,8 @@ fn write_file<R: rt::Files>(system: &R, name: &str, bytes: &[u8]) -> Result<(), 
 fn read_all<F: Read>(alloc: Global, file: &mut F) -> Result<Vec<u8>, FileRefusal>
     ensures bytes { IfOk result (λ bytes. IfSome (F.remaining file.old) (λ left. bytes.items ≡ left)) }
     ensures bounded { IfOk result (λ bytes. length bytes.items ≤ FILE_LIMIT) }
-    ensures too_long { IsErrOf result FileRefusal.TooLong → IfSome (F.remaining file.old) (λ left. FILE_LIMIT < length left) }
+    ensures too_long { IsErrOf result FileRefusal.TooLong →
+        IfSome (F.remaining file.old) (λ left. FILE_LIMIT < length left) }
 {
     let mut piece = [0; PIECE];
     let mut bytes = Vec::new(alloc);
@@ -127,7 +129,8 @@ fn read_piece<F: Read>(
     bytes: &mut Vec<u8>,
 ) -> Result<usize, FileRefusal>
     requires { 0 < length piece.old }
-    ensures bytes { IfOk result (λ n. (got : List ℕ) × (length got ≡ n) × (bytes.new.items ≡ bytes.old.items ++ got) × Consumes (F.remaining file.old) (F.remaining file.new) got) }
+    ensures bytes { IfOk result (λ n.
+        AppendsRead n bytes.old.items bytes.new.items (F.remaining file.old) (F.remaining file.new)) }
     ensures bound { IfOk result (λ n. n ≤ length piece.old) }
     ensures end { IfOk result (λ n. n ≡ 0 → IsAtEnd (F.remaining file.new)) }
     ensures not_too_long { result ≢ Err FileRefusal.TooLong }

@@ -48,7 +48,8 @@ impl<W: Write> Sink for RealSink<W> {
         ensures empty { length bytes.now ≡ 0 → result ≡ Ok 0 }
 
         // Where the writer tells its bytes, it has those that were taken.
-        ensures taken { IfOk result (λ taken. Appends (W.contents self.old.writer) (W.contents self.new.writer) (take taken bytes.now)) }
+        ensures taken { IfOk result (λ taken.
+            Appends (W.contents self.old.writer) (W.contents self.new.writer) (take taken bytes.now)) }
         ensures faults { self.new.faults ≡ (if is_ok result then self.old.faults else one_more self.old.faults) }
         ensures never_falls { self.old.faults ≤ self.new.faults }
     {
@@ -68,7 +69,8 @@ impl<W: Write> Sink for RealSink<W> {
 /// Writes once, and flushes.
 fn write_and_flush<W: Write>(writer: &mut W, bytes: &[u8]) -> io::Result<usize>
     ensures within { IfOk result (λ taken. taken ≤ length bytes.now) }
-    ensures taken { IfOk result (λ taken. Appends (W.contents writer.old) (W.contents writer.new) (take taken bytes.now)) }
+    ensures taken { IfOk result (λ taken.
+        Appends (W.contents writer.old) (W.contents writer.new) (take taken bytes.now)) }
 {
     let taken = writer.write(bytes)?;
     writer.flush()?;
