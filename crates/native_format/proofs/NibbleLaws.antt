@@ -189,12 +189,12 @@ below high [] v h e = absurd (let x : ⊥ = cc in x)
 below high (n ∷ ns) v h e =
     elim (cases_lt n 8) [
       | inl lt ↦
-        let one : (8 * high + n) ∷ numbers ns ≡ v ∷ [] = sym (numbers_last high n ns lt) ∙ e in
-        let v-is : 8 * high + n ≡ v = cc in
-        last_below (high + 1) (length ns) v (omega arith)
+          let one : (8 * high + n) ∷ numbers ns ≡ v ∷ [] = sym (numbers_last high n ns lt) ∙ e in
+          let v-is : 8 * high + n ≡ v = cc in
+          last_below (high + 1) (length ns) v (omega arith)
       | inr le ↦
-        let more = below (8 * high + (n - 8)) ns v h.1 (sym (numbers_more high n ns le) ∙ e) in
-        more_below (high + 1) (8 * high + (n - 8) + 1) (length ns) v (omega (arith, h.0)) more
+          let more = below (8 * high + (n - 8)) ns v h.1 (sym (numbers_more high n ns le) ∙ e) in
+          more_below (high + 1) (8 * high + (n - 8) + 1) (length ns) v (omega (arith, h.0)) more
     ]
 
 pub fewest : (v : ℕ) (ns : List ℕ) → AreNibbles ns → numbers ns ≡ v ∷ [] → length (groups v) ≤ length ns

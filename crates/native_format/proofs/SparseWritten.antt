@@ -15,7 +15,7 @@ use Rattle.rtr_bytes.specs.Field.{field_at}
 use Rattle.native_format.specs.declared.sparse.Element.{Element}
 use Rattle.native_format.specs.Uint.{short_uint, uint_at}
 use Rattle.native_format.specs.Sparse.{Array, Answer, array_at, blocks_of, element_of, path, weights}
-use Rattle.native_format.specs.SparseBytes.{AreElements, content_of, Finds, HoldsElements, slots_from, block_bytes, block, blocks, joined, index_bytes, sparse_bytes, tree}
+use Rattle.native_format.specs.SparseBytes.{AreElements, fork_number, content_of, Finds, HoldsElements, slots_from, block_bytes, block, blocks, joined, index_bytes, sparse_bytes, tree}
 use Rattle.native_format.specs.SparseSteps.{contents, SameFrom, IsSmall}
 use Rattle.native_format.proofs.TreeLaws.{uint_written, block_path, carried}
 
@@ -122,7 +122,7 @@ regrouped h i j b d r body is = rw is (simp append_assoc)
 element_in : (header rest : List ℕ) (count : ℕ) (es : Elements) (i : ℕ) → i < count →
     length (index_bytes (4 * blocks_of count) (blocks es (blocks_of count)) ++ joined (blocks es (blocks_of count))) < 2 ^ 24 →
     Finds (header ++ ((index_bytes (4 * blocks_of count) (blocks es (blocks_of count)) ++ joined (blocks es (blocks_of count))) ++ rest))
-      (element_of (array_in (header ++ ((index_bytes (4 * blocks_of count) (blocks es (blocks_of count)) ++ joined (blocks es (blocks_of count))) ++ rest)) (length header) count) i) (content_of es i)
+    (element_of (array_in (header ++ ((index_bytes (4 * blocks_of count) (blocks es (blocks_of count)) ++ joined (blocks es (blocks_of count))) ++ rest)) (length header) count) i) (content_of es i)
 unfolding element_of
 element_in header rest count es i lt small =
     let n = blocks_of count in
@@ -150,8 +150,8 @@ element_in header rest count es i lt small =
     let block_small : length (block es k) < 2 ^ 24 = omega (arith, ap length body_is, length-append (joined (take k bs)) (block es k ++ joined (drop (k + 1) bs)), length-append (block es k) (joined (drop (k + 1) bs)), sizes, small) in
     let found = block_path (i % 16) (slots_from es (16 * k) 16) front behind (omega arith) block_small in
     let found_there : Finds bytes (path bytes (i % 16) weights (length header + distance)) (content_of es i) =
-        subst (Finds bytes (path bytes (i % 16) weights (length header + distance))) (slot_of es i)
-          (carried (front ++ (block es k ++ behind)) bytes (i % 16) weights (length front) (length header + distance) (path bytes (i % 16) weights (length header + distance)) (get_or (slots_from es (16 * k) 16) (i % 16) None) split front_len refl found) in
+    subst (Finds bytes (path bytes (i % 16) weights (length header + distance))) (slot_of es i)
+    (carried (front ++ (block es k ++ behind)) bytes (i % 16) weights (length front) (length header + distance) (path bytes (i % 16) weights (length header + distance)) (get_or (slots_from es (16 * k) 16) (i % 16) None) split front_len refl found) in
     let answer : element_of a i ≡ path bytes (i % 16) weights (length header + distance) = rw (lt-ltb i count lt, entry, inside) refl in
     subst (λ (r : Answer). Finds bytes r (content_of es i)) (sym answer) found_there
 
@@ -205,11 +205,11 @@ behind_found [] i c are e = absurd (none-some c (sym e))
 behind_found (x ∷ es) i c are e =
     elim (cases_eq x.index i) [
       | inl same ↦
-        let next : x.index + 1 ≡ i + 1 = omega arith in
-        (omega arith, subst (λ (n : ℕ). AreElements n (2 ^ 32) es) next are.2, λ k le. let apart : x.index ≡ k → ⊥ = λ q. omega (arith, q) in sym (rw (ne_eqb _ _ apart) refl))
+          let next : x.index + 1 ≡ i + 1 = omega arith in
+          (omega arith, subst (λ (n : ℕ). AreElements n (2 ^ 32) es) next are.2, λ k le. let apart : x.index ≡ k → ⊥ = λ q. omega (arith, q) in sym (rw (ne_eqb _ _ apart) refl))
       | inr other ↦
-        let later : i < x.index + 1 = omega (arith, are.0) in
-        absurd (none-some c (sym (e ∙ rw (ne_eqb _ _ other) (absent_below es (x.index + 1) (2 ^ 32) i are.2 later))))
+          let later : i < x.index + 1 = omega (arith, are.0) in
+          absurd (none-some c (sym (e ∙ rw (ne_eqb _ _ other) (absent_below es (x.index + 1) (2 ^ 32) i are.2 later))))
     ]
 
 pub behind_none : (es : Elements) (i : ℕ) → AreElements i (2 ^ 32) es → None ≡ content_of es i → AreElements (i + 1) (2 ^ 32) es
@@ -225,8 +225,8 @@ pub all_slots : (xs : List (Option (Bor (List ℕ)))) (es : Elements) (first n :
 unfolding slots_from
 all_slots xs es first n len each =
     ext_get_or None (contents xs) (map (content_of es) (range_with_len first n)) (length-map xs option_copied ∙ len ∙ sym (length-map-range_with_len (content_of es) first n))
-      (λ k lt. let k_lt : k < n = omega (arith, length-map xs option_copied) in
-        get_or-map option_copied xs k None None (omega arith) ∙ each k k_lt ∙ sym (get_or-map-range_with_len (content_of es) first n k (first + k) None k_lt refl))
+    (λ k lt. let k_lt : k < n = omega (arith, length-map xs option_copied) in
+    get_or-map option_copied xs k None None (omega arith) ∙ each k k_lt ∙ sym (get_or-map-range_with_len (content_of es) first n k (first + k) None k_lt refl))
 
 pub set_slot : (xs : List (Option (Bor (List ℕ)))) (es rest : Elements) (first i : ℕ) (slot : Option (Bor (List ℕ))) → i < length xs → option_copied slot ≡ content_of rest (first + i)
     → SameFrom (first + i) es rest → ((k : ℕ) → k < i → option_copied (get_or xs k None) ≡ content_of es (first + k))
@@ -267,8 +267,8 @@ pub same_slots : (es rest : Elements) (first n : ℕ) → SameFrom first es rest
 unfolding slots_from
 same_slots es rest first n same =
     ext_get_or None (map (content_of rest) (range_with_len first n)) (map (content_of es) (range_with_len first n)) (length-map-range_with_len (content_of rest) first n ∙ sym (length-map-range_with_len (content_of es) first n))
-      (λ k lt. let k_lt : k < n = omega (arith, length-map-range_with_len (content_of rest) first n) in
-        get_or-map-range_with_len (content_of rest) first n k (first + k) None k_lt refl ∙ same (first + k) (omega arith) ∙ sym (get_or-map-range_with_len (content_of es) first n k (first + k) None k_lt refl))
+    (λ k lt. let k_lt : k < n = omega (arith, length-map-range_with_len (content_of rest) first n) in
+    get_or-map-range_with_len (content_of rest) first n k (first + k) None k_lt refl ∙ same (first + k) (omega arith) ∙ sym (get_or-map-range_with_len (content_of es) first n k (first + k) None k_lt refl))
 
 pub block_from : (es rest : Elements) (k : ℕ) (slots : List (Option (List ℕ))) → slots ≡ slots_from rest (16 * k) 16 → SameFrom (16 * k) es rest → block_bytes slots ≡ block es k
 block_from es rest k slots is same = ap block_bytes (is ∙ same_slots es rest (16 * k) 16 same)
@@ -321,3 +321,20 @@ whole_is count n es header one two index body n-is header-is one-is two-is index
 pub none_put : (at : ℕ) (bytes : List ℕ) → bytes ≡ [] → bytes ≡ index_bytes at []
 unfolding index_bytes
 none_put at bytes e = e
+
+-- ---- written arrays of a few bytes
+
+abbrev pub of_one : ℕ → List ℕ → Elements
+of_one index content = record { index = index; content = content } ∷ []
+
+pub small_one : length (sparse_bytes 1 (of_one 0 (0x0C ∷ []))) < 2 ^ 24
+unfolding sparse_bytes content_of slots_from tree short_uint fork_number index_bytes
+small_one = omega arith
+
+pub small_two : length (sparse_bytes 4 (record { index = 0; content = 0x0C ∷ [] } ∷ of_one 3 (0x0D ∷ 0x0E ∷ []))) < 2 ^ 24
+unfolding sparse_bytes content_of slots_from tree short_uint fork_number index_bytes
+small_two = omega arith
+
+pub small_late : length (sparse_bytes 17 (of_one 16 (0x08 ∷ []))) < 2 ^ 24
+unfolding sparse_bytes content_of slots_from tree short_uint fork_number index_bytes
+small_late = omega arith

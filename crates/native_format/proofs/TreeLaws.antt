@@ -131,9 +131,9 @@ low_only low w ws xs ys l front behind false bit below some none small =
     let read : uint_at bytes (length front) ≡ Some (1, length front + length (short_uint 1)) = ap (λ (t : List ℕ). uint_at (front ++ t) (length front)) (append_assoc (short_uint 1) l behind) ∙ uint_written front (l ++ behind) 1 (omega arith) in
     let regrouped : (front ++ short_uint 1) ++ (l ++ behind) ≡ bytes = append_assoc front (short_uint 1) (l ++ behind) ∙ ap (λ (t : List ℕ). front ++ t) (sym (append_assoc (short_uint 1) l behind)) in
     carried ((front ++ short_uint 1) ++ (l ++ behind)) bytes low ws (length (front ++ short_uint 1)) (length front + length (short_uint 1)) (path bytes low (w ∷ ws) (length front)) (slot_by low ws xs)
-      regrouped (length-append front (short_uint 1))
-      (to_child bytes low w ws (length front) _ (step_is bytes low w (length front) 1 _ false bit read))
-      (below l (front ++ short_uint 1) behind some (omega (arith, length-append (short_uint 1) l, small)))
+    regrouped (length-append front (short_uint 1))
+    (to_child bytes low w ws (length front) _ (step_is bytes low w (length front) 1 _ false bit read))
+    (below l (front ++ short_uint 1) behind some (omega (arith, length-append (short_uint 1) l, small)))
 
 high_only : (low w : ℕ) (ws : List ℕ) (xs ys : Slots) (r front behind : List ℕ) (b : Bool) → bit_of low w ≡ b → Below low ws ys → tree ws ys ≡ Some r → tree ws xs ≡ None → length (short_uint 6 ++ r) < 2 ^ 24
     → Finds (front ++ ((short_uint 6 ++ r) ++ behind)) (path (front ++ ((short_uint 6 ++ r) ++ behind)) low (w ∷ ws) (length front)) (slot_by low ws (cond b ys xs))
@@ -149,9 +149,9 @@ high_only low w ws xs ys r front behind true bit below some none small =
     let inside : leb (length front + 1) (length bytes) ≡ true = le-leb _ _ (omega (arith, ap length regrouped, length-append (front ++ short_uint 6) (r ++ behind), length-append front (short_uint 6), one)) in
     let step = step_is bytes low w (length front) 6 _ true bit read in
     carried ((front ++ short_uint 6) ++ (r ++ behind)) bytes low ws (length (front ++ short_uint 6)) (length front + 1) (path bytes low (w ∷ ws) (length front)) (slot_by low ws ys)
-      regrouped (omega (arith, length-append front (short_uint 6), one))
-      (to_child bytes low w ws (length front) _ (step ∙ rw inside refl))
-      (below r (front ++ short_uint 6) behind some (omega (arith, length-append (short_uint 6) r, small)))
+    regrouped (omega (arith, length-append front (short_uint 6), one))
+    (to_child bytes low w ws (length front) _ (step ∙ rw inside refl))
+    (below r (front ++ short_uint 6) behind some (omega (arith, length-append (short_uint 6) r, small)))
 
 to_fork : (low w : ℕ) (ws : List ℕ) (xs ys : Slots) (l r front behind : List ℕ) (v : ℕ) → v ≡ 4 * (length (short_uint v) + length l) + 3 → (b : Bool) → bit_of low w ≡ b
     → uint_at (front ++ ((short_uint v ++ (l ++ r)) ++ behind)) (length front) ≡ Some (v, length front + length (short_uint v))
@@ -164,7 +164,7 @@ to_fork low w ws xs ys l r front behind v v-is false bit read below_low below_hi
     let step : step_at bytes low w (length front) ≡ Ok (steps.Child (length front + length node)) = step_is bytes low w (length front) v _ false bit read ∙ rw (eq-eqb _ _ odd) refl in
     let regrouped : (front ++ node) ++ (l ++ (r ++ behind)) ≡ bytes = append_assoc front node (l ++ (r ++ behind)) ∙ ap (λ (t : List ℕ). front ++ (node ++ t)) (sym (append_assoc l r behind)) ∙ ap (λ (t : List ℕ). front ++ t) (sym (append_assoc node (l ++ r) behind)) in
     carried ((front ++ node) ++ (l ++ (r ++ behind))) bytes low ws (length (front ++ node)) (length front + length node) (path bytes low (w ∷ ws) (length front)) (slot_by low ws xs)
-      regrouped (length-append front node) (to_child bytes low w ws (length front) _ step) (below_low l (front ++ node) (r ++ behind) some_low low_small)
+    regrouped (length-append front node) (to_child bytes low w ws (length front) _ step) (below_low l (front ++ node) (r ++ behind) some_low low_small)
 to_fork low w ws xs ys l r front behind v v-is true bit read below_low below_high some_low some_high low_small high_small =
     let node = short_uint v in
     let bytes = front ++ ((node ++ (l ++ r)) ++ behind) in
@@ -176,7 +176,7 @@ to_fork low w ws xs ys l r front behind v v-is true bit read below_low below_hig
     let inside : leb (length front + (length node + length l)) (length bytes) ≡ true = le-leb _ _ (omega (arith, ap length regrouped, length-append before (r ++ behind), before_len)) in
     let step : step_at bytes low w (length front) ≡ Ok (steps.Child (length front + (length node + length l))) = step_is bytes low w (length front) v _ true bit read ∙ rw (eq-eqb _ _ set, distance, inside) refl in
     carried (before ++ (r ++ behind)) bytes low ws (length before) (length front + (length node + length l)) (path bytes low (w ∷ ws) (length front)) (slot_by low ws ys)
-      regrouped before_len (to_child bytes low w ws (length front) _ step) (below_high r before behind some_high high_small)
+    regrouped before_len (to_child bytes low w ws (length front) _ step) (below_high r before behind some_high high_small)
 
 fork : (low w : ℕ) (ws : List ℕ) (xs ys : Slots) (l r front behind : List ℕ) (b : Bool) → bit_of low w ≡ b → Below low ws xs → Below low ws ys → tree ws xs ≡ Some l → tree ws ys ≡ Some r
     → length (short_uint (fork_number (length l)) ++ (l ++ r)) < 2 ^ 24
@@ -199,15 +199,15 @@ under low w ws xs ys None None t front behind below_low below_high p q e small =
 under low w ws xs ys (Some l) None t front behind below_low below_high p q e small =
     let t-is : short_uint 1 ++ l ≡ t = same_Some (short_uint 1 ++ l) t e in
     subst (λ (u : List ℕ). Finds (front ++ (u ++ behind)) (path (front ++ (u ++ behind)) low (w ∷ ws) (length front)) (slot_by low ws (cond (bit_of low w) ys xs))) t-is
-      (low_only low w ws xs ys l front behind (bit_of low w) refl below_low p q (omega (arith, ap length t-is, small)))
+    (low_only low w ws xs ys l front behind (bit_of low w) refl below_low p q (omega (arith, ap length t-is, small)))
 under low w ws xs ys None (Some r) t front behind below_low below_high p q e small =
     let t-is : short_uint 6 ++ r ≡ t = same_Some (short_uint 6 ++ r) t e in
     subst (λ (u : List ℕ). Finds (front ++ (u ++ behind)) (path (front ++ (u ++ behind)) low (w ∷ ws) (length front)) (slot_by low ws (cond (bit_of low w) ys xs))) t-is
-      (high_only low w ws xs ys r front behind (bit_of low w) refl below_high q p (omega (arith, ap length t-is, small)))
+    (high_only low w ws xs ys r front behind (bit_of low w) refl below_high q p (omega (arith, ap length t-is, small)))
 under low w ws xs ys (Some l) (Some r) t front behind below_low below_high p q e small =
     let t-is : short_uint (fork_number (length l)) ++ (l ++ r) ≡ t = same_Some (short_uint (fork_number (length l)) ++ (l ++ r)) t e in
     subst (λ (u : List ℕ). Finds (front ++ (u ++ behind)) (path (front ++ (u ++ behind)) low (w ∷ ws) (length front)) (slot_by low ws (cond (bit_of low w) ys xs))) t-is
-      (fork low w ws xs ys l r front behind (bit_of low w) refl below_low below_high p q (omega (arith, ap length t-is, small)))
+    (fork low w ws xs ys l r front behind (bit_of low w) refl below_low below_high p q (omega (arith, ap length t-is, small)))
 
 pub tree_path : (low : ℕ) (ws : List ℕ) (slots : Slots) → Below low ws slots
 unfolding tree path
@@ -256,9 +256,9 @@ empty_block low front behind slot small none =
     let bytes = front ++ (short_uint 64 ++ behind) in
     let read = uint_written front behind 64 (omega arith) in
     nothing_found bytes (path bytes low weights (length front)) slot (to_nothing bytes low 8 (4 ∷ 2 ∷ 1 ∷ []) (length front) (no_element (bit_of low 8) refl)) none where
-  no_element : (b : Bool) → bit_of low 8 ≡ b → step_at (front ++ (short_uint 64 ++ behind)) low 8 (length front) ≡ Ok steps.Absent
-  no_element true bit = step_is (front ++ (short_uint 64 ++ behind)) low 8 (length front) 64 _ true bit (uint_written front behind 64 (omega arith)) ∙ rw (ne_eqb 16 low (λ e. omega (arith, e))) refl
-  no_element false bit = step_is (front ++ (short_uint 64 ++ behind)) low 8 (length front) 64 _ false bit (uint_written front behind 64 (omega arith)) ∙ rw (ne_eqb 16 low (λ e. omega (arith, e))) refl
+      no_element : (b : Bool) → bit_of low 8 ≡ b → step_at (front ++ (short_uint 64 ++ behind)) low 8 (length front) ≡ Ok steps.Absent
+      no_element true bit = step_is (front ++ (short_uint 64 ++ behind)) low 8 (length front) 64 _ true bit (uint_written front behind 64 (omega arith)) ∙ rw (ne_eqb 16 low (λ e. omega (arith, e))) refl
+      no_element false bit = step_is (front ++ (short_uint 64 ++ behind)) low 8 (length front) 64 _ false bit (uint_written front behind 64 (omega arith)) ∙ rw (ne_eqb 16 low (λ e. omega (arith, e))) refl
 
 pub block_path : (low : ℕ) (slots : Slots) (front behind : List ℕ) → low < 16 → length (block_bytes slots) < 2 ^ 24
     → Finds (front ++ (block_bytes slots ++ behind)) (path (front ++ (block_bytes slots ++ behind)) low weights (length front)) (get_or slots low None)

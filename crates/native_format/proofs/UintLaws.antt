@@ -84,7 +84,6 @@ shifted_is n mark bytes v k whole e =
     let front : little_number n (take n bytes) ≡ little_number n bytes = little_from-take 0 n n bytes (omega arith) in
     (ap (λ (p : ℕ × ℕ). p.1) g.1, le, (length-take-le n bytes le, front ∙ rw v-is at whole))
 
-
 abbrev is_low : List ℕ → ℕ → ℕ → Bool
 is_low bytes n mark = eqb (get_or bytes 0 0 % n) mark
 
@@ -119,11 +118,11 @@ leading_is bytes v n e =
           | inr not_three ↦ elim (cases_Bool (is_low bytes 16 7)) [
             | inl t ↦ let low = eqb-true _ _ t in leads 4 7 bytes v n (omega arith) (omega arith) (λ h. inr (inr (inr (inl h)))) (shifted_is 4 7 bytes v n (omega (arith, low)) (rw (not_one, not_two, not_three, t) at e))
             | inr not_four ↦
-              let a = eqb-false _ _ not_one in
-              let b = eqb-false _ _ not_two in
-              let c = eqb-false _ _ not_three in
-              let d = eqb-false _ _ not_four in
-              long_is bytes v n (long_mark (get_or bytes 0 0) a b c d) (rw (not_one, not_two, not_three, not_four) at e)
+                let a = eqb-false _ _ not_one in
+                let b = eqb-false _ _ not_two in
+                let c = eqb-false _ _ not_three in
+                let d = eqb-false _ _ not_four in
+                long_is bytes v n (long_mark (get_or bytes 0 0) a b c d) (rw (not_one, not_two, not_three, not_four) at e)
           ]
         ]
       ]
@@ -269,14 +268,15 @@ pub uint_small : (bytes : List ℕ) (at v next : ℕ) → IsBytes bytes → Some
 uint_small bytes at v next fits e =
     let p = uint_at_is bytes at v next (sym e) in
     small (take p.0 (drop at bytes)) (taken p.0) (p.2).spelled where
-  taken : (n : ℕ) → IsBytes (take n (drop at bytes))
-  taken n i = elim (cases_lt i n) [
-      | inl lt ↦ rw (get_or-take n (drop at bytes) i 0 lt, get_or-drop) (fits (at + i))
-      | inr le ↦ rw (get_or_past (take n (drop at bytes)) i 0 (omega (arith, length-take n (drop at bytes)))) (omega arith)
-    ]
-  small : (s : List ℕ) → IsBytes s → IsUint v s → v < 2 ^ 32
-  small s b (inl h) = omega (arith, shifted_below 1 0 v s b h)
-  small s b (inr (inl h)) = omega (arith, shifted_below 2 1 v s b h)
-  small s b (inr (inr (inl h))) = omega (arith, shifted_below 3 3 v s b h)
-  small s b (inr (inr (inr (inl h)))) = omega (arith, shifted_below 4 7 v s b h)
-  small s b (inr (inr (inr (inr h)))) = omega (arith, h.2, little_from-lt 0 4 (drop 1 s) (λ i. rw get_or-drop (b (1 + i))))
+      taken : (n : ℕ) → IsBytes (take n (drop at bytes))
+      taken n i = elim (cases_lt i n) [
+        | inl lt ↦ rw (get_or-take n (drop at bytes) i 0 lt, get_or-drop) (fits (at + i))
+        | inr le ↦ rw (get_or_past (take n (drop at bytes)) i 0 (omega (arith, length-take n (drop at bytes)))) (omega arith)
+      ]
+
+      small : (s : List ℕ) → IsBytes s → IsUint v s → v < 2 ^ 32
+      small s b (inl h) = omega (arith, shifted_below 1 0 v s b h)
+      small s b (inr (inl h)) = omega (arith, shifted_below 2 1 v s b h)
+      small s b (inr (inr (inl h))) = omega (arith, shifted_below 3 3 v s b h)
+      small s b (inr (inr (inr (inl h)))) = omega (arith, shifted_below 4 7 v s b h)
+      small s b (inr (inr (inr (inr h)))) = omega (arith, h.2, little_from-lt 0 4 (drop 1 s) (λ i. rw get_or-drop (b (1 + i))))

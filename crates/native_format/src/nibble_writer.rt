@@ -30,7 +30,10 @@ impl NibbleWriter {
     fn new(alloc: Global) -> NibbleWriter
         ensures { result ≡ [] }
     {
-        NibbleWriter { bytes: Vec::new(alloc), low: None }
+        NibbleWriter {
+            bytes: Vec::new(alloc),
+            low: None,
+        }
     }
 
     fn put(&mut self, nibble: u8) -> Result<(), NoMemory>
@@ -131,5 +134,4 @@ pub fn write_nibbles(alloc: Global, list: &[SlotRef]) -> Result<Vec<u8>, NoMemor
 pub fn fewest_groups()
     ensures spells { (v : ℕ) → numbers (groups v) ≡ v ∷ [] }
     ensures fewest { (v : ℕ) (ns : List ℕ) → ((i : ℕ) → slice_index ns i < 16) → numbers ns ≡ v ∷ [] → length (groups v) ≤ length ns }
-{
-}
+{}

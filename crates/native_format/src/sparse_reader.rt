@@ -20,7 +20,10 @@ fn step(bytes: &[u8], low: u32, weight: u32, at: u32) -> Result<Step, Fault>
     requires some { 0 < weight }
     ensures { result ≡ step_at bytes.now low weight at }
 {
-    let broken = Fault { check: 64, place: at };
+    let broken = Fault {
+        check: 64,
+        place: at,
+    };
     let Some((node, behind)) = read_uint(bytes, at) else {
         return Err(broken);
     };
@@ -107,7 +110,10 @@ impl<'a> SparseArray<'a> {
         ensures none { IfErr result (λ _. array_at bytes.now at ≡ None) }
         ensures place { IfErr result (λ fault. fault ≡ header_fault at) }
     {
-        let fault = Fault { check: 63, place: at };
+        let fault = Fault {
+            check: 63,
+            place: at,
+        };
         let Some((header, index_at)) = read_uint(bytes, at) else {
             return Err(fault);
         };
@@ -147,7 +153,10 @@ impl<'a> SparseArray<'a> {
         let distance = entry_at(self.bytes, self.entry_size, entry);
         let block = self.index_at as usize + distance as usize;
         if block > self.bytes.len() {
-            return Err(Fault { check: 64, place: entry });
+            return Err(Fault {
+                check: 64,
+                place: entry,
+            });
         }
         walk(self.bytes, index % 16, block as u32)
     }

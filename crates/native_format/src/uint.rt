@@ -96,12 +96,10 @@ pub fn write_uint(out: &mut Vec<u8>, value: u32) -> Result<(), NoMemory>
 /// again, as the number that it was.
 pub fn no_spelling_begins_another()
     ensures { (s t x y : List ℕ) (v w : ℕ) → IsUint v s → IsUint w t → s ++ x ≡ t ++ y → (s ≡ t) × (v ≡ w) }
-{
-}
+{}
 
 /// The shortest spelling spells its number, and no spelling of that number is shorter.
 pub fn shortest_spelling()
     ensures spells { (v : ℕ) → v < 2 ^ 32 → IsUint v (short_uint v) }
     ensures shortest { (v : ℕ) (s : List ℕ) → ((i : ℕ) → slice_index s i < 256) → IsUint v s → length (short_uint v) ≤ length s }
-{
-}
+{}

@@ -19,4 +19,4 @@ returns c =
     let behind = numbers_from c.args.bytes.now c.in_ok-slot.at in
     let both = one.numbers_are ∙ ap (λ ns. c.in_ok-section.section ∷ ns) two.numbers_are in
     reads c.args.bytes.now (slots_of (numbers_from c.args.bytes.now c.args.start)) c.args.start c.in_ok-slot.at (at_slot c.in_ok-section.section c.in_ok-slot.slot) (omega (arith, one.further, two.further)) two.within (one.fits, two.fits)
-      (ap slots_of both ∙ slots_of_two c.in_ok-section.section c.in_ok-slot.slot behind)
+    (ap slots_of both ∙ slots_of_two c.in_ok-section.section c.in_ok-slot.slot behind)

@@ -46,7 +46,7 @@ returns-in_err-section c =
     let zero_is : c.in_ok-distance.distance ≡ 0 = omega arith in
     let behind = numbers_from c.args.bytes.now c.in_ok-distance-2.at in
     rw c.from_residual-in_err-section.ensures (ap (slots_behind c.args.last) (same_two _ _ behind 0 c.in_ok-distance-2.distance zero_is refl one.numbers_are two.numbers_are)
-      ∙ section_sum_wide c.args.last c.in_ok-distance-2.distance behind (omega arith) (omega (arith, c.in_err-section.ensures)))
+    ∙ section_sum_wide c.args.last c.in_ok-distance-2.distance behind (omega arith) (omega (arith, c.in_err-section.ensures)))
 
 pub returns-in_err-slot-2 : goal.returns-in_err-slot-2
 returns-in_err-slot-2 c =
@@ -55,7 +55,7 @@ returns-in_err-slot-2 c =
     let zero_is : c.in_ok-distance.distance ≡ 0 = omega arith in
     let behind = numbers_from c.args.bytes.now c.in_ok-distance-2.at in
     rw c.from_residual-in_err-slot-2.ensures (ap (slots_behind c.args.last) (same_two _ _ behind 0 c.in_ok-distance-2.distance zero_is refl one.numbers_are two.numbers_are)
-      ∙ no_first_slot c.args.last c.in_ok-distance-2.distance behind (omega arith) c.in_err-slot-2.ensures)
+    ∙ no_first_slot c.args.last c.in_ok-distance-2.distance behind (omega arith) c.in_err-slot-2.ensures)
 
 pub returns : goal.returns
 returns c =

@@ -27,4 +27,4 @@ put_tree-requires-2 t c =
 pub returns : goal.returns
 returns t c =
     tree_put c.args.lower.now c.args.slots.now c.tree_len.result c.tree_len-2.result c.args.out.now.items c.put_node.new.out.items c.put_tree.new.out.items c.put_tree-2.new.out.items
-      c.in-len1-up.len_at_least c.tree_len.ensures c.tree_len-2.ensures c.in_ok-put_node.ensures c.in_ok-put_tree.ensures c.in_ok-put_tree-2.ensures
+    c.in-len1-up.len_at_least c.tree_len.ensures c.tree_len-2.ensures c.in_ok-put_node.ensures c.in_ok-put_tree.ensures c.in_ok-put_tree-2.ensures

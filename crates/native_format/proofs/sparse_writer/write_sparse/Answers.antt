@@ -27,10 +27,10 @@ pub returns-clause-exact : goal.returns-clause-exact
 returns-clause-exact c =
     let n : c.div_ceil.result ≡ blocks_of c.args.count = omega arith in
     whole_is c.args.count c.div_ceil.result c.args.elements.now c.write_uint.new.out.items c.extend_from_slice.new.self.items c.extend_from_slice-2.new.self.items c.in_ok-index.index.items c.in_ok-index.body.items n
-      (c.in_ok-write_uint.ensures.ok ∙ ap (λ bytes. bytes ++ short_uint (4 * c.args.count + 2)) c.new-out.ensures.items)
-      (c.in_ok-extend_from_slice.ensures.items ∙ ap (λ bytes. c.write_uint.new.out.items ++ bytes) c.deref.ensures.value)
-      (c.in_ok-extend_from_slice-2.ensures.items ∙ ap (λ bytes. c.extend_from_slice.new.self.items ++ bytes) c.deref-2.ensures.value)
-      c.in_ok-index.ensures.index c.in_ok-index.ensures.blocks
+    (c.in_ok-write_uint.ensures.ok ∙ ap (λ bytes. bytes ++ short_uint (4 * c.args.count + 2)) c.new-out.ensures.items)
+    (c.in_ok-extend_from_slice.ensures.items ∙ ap (λ bytes. c.write_uint.new.out.items ++ bytes) c.deref.ensures.value)
+    (c.in_ok-extend_from_slice-2.ensures.items ∙ ap (λ bytes. c.extend_from_slice.new.self.items ++ bytes) c.deref-2.ensures.value)
+    c.in_ok-index.ensures.index c.in_ok-index.ensures.blocks
 
 pub returns-clause-holds : goal.returns-clause-holds
 returns-clause-holds c = λ rest.
