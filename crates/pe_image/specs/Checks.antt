@@ -1,5 +1,5 @@
 -- The checks of the PE headers and the CLI header, each computed from the bytes alone.
-use Rattle.std.specs.Prelude.{ℕ, ◌+◌, ◌*◌, ◌==◌, ◌&&◌, ◌||◌, List, [], ◌∷◌, ◌++◌, length, Bool, Option, nat_le, is_some}
+use Rattle.std.specs.Prelude.{ℕ, ◌+◌, ◌*◌, ◌==◌, ◌&&◌, ◌||◌, List, [], ◌∷◌, ◌++◌, length, Bool, nat_le, is_some}
 use Rattle.std.specs.Option.{option_map}
 use Rattle.rtr_bytes.specs.Field.{u16_of, u32_of}
 use Rattle.rtr_bytes.specs.Checks.{Check, check, holds_or, first_record}

@@ -1,5 +1,5 @@
 -- What stands in a PE file with a CLI header, each at its place (PE/COFF 2.5 to 3.4, ECMA-335 II.25.3.3).
-use Rattle.std.specs.Prelude.{ℕ, ◌+◌, ◌-◌, ◌*◌, ◌==◌, ◌&&◌, List, Bool, Option, Some, None, if◌then◌else◌, unwrap_or}
+use Rattle.std.specs.Prelude.{ℕ, ◌+◌, ◌-◌, ◌==◌, ◌&&◌, List, Bool, Option, Some, None, if◌then◌else◌, unwrap_or}
 use Rattle.rtr_bytes.specs.declared.fault.Span.{Span}
 use Rattle.rtr_bytes.specs.Field.{u16_of, u32_of}
 use Rattle.rtr_bytes.specs.Checks.{records}

@@ -1,15 +1,14 @@
 -- The cause of each status, from how a dump ends.
-use Rattle.std.proofs.Common.{◌≡◌, ℕ, zero, suc, ◌<◌, ◌≤◌, List, [], ◌∷◌, ◌++◌, ◌⊎◌, inl, inr, length, Option, Some, None, Bool, true, false, cond, refl, sym, ap, subst, ◌∙◌, length-append, arith, lt-ltb, le-ltb}
-use Rattle.std.specs.Prelude.{nat_lt, IsTrue}
-use Rattle.std.specs.List.{list_any}
+use Rattle.std.proofs.Common.{◌≡◌, ℕ, suc, ◌<◌, ◌≤◌, List, [], ◌∷◌, ◌++◌, ◌⊎◌, inl, inr, length, Option, Some, None, Bool, true, false, cond, refl, sym, ap, subst, ◌∙◌, length-append, arith, lt-ltb, le-ltb}
+use Rattle.std.specs.Prelude.{nat_lt}
 use Rattle.rtr_bytes.specs.declared.fault.Fault.{Fault}
 use Rattle.rtr_bytes.specs.Checks.{first_fault}
 use Rattle.rtr_outside.specs.Files.{Contents, Call, Read, IsToldAs, IsToldLonger, file_limit}
-use Rattle.rtr_outside.specs.Sink.{Appends, Rose}
+use Rattle.rtr_outside.specs.Sink.{Appends}
 use Rattle.r2r.specs.Dump.{dump_checks}
 use Rattle.r2r.specs.Text.{dump_text}
-use Rattle.r2r.specs.Outcome.{read_failed_line, malformed_line, too_long_line, Prints, PrintsFront, CutsShort, Ends, IsReply, IsFileReply, ReadFailed, TooLong, WasRead, DumpEnds, faulted}
-use Rattle.r2r.specs.Causes.{DumpCauses, IsOneOf, OfBytes, Tells, TellsNone, statuses_of, statuses_by_fault}
+use Rattle.r2r.specs.Outcome.{read_failed_line, malformed_line, too_long_line, Prints, CutsShort, Ends, IsReply, IsFileReply, ReadFailed, TooLong, WasRead, DumpEnds, faulted}
+use Rattle.r2r.specs.Causes.{DumpCauses, IsOneOf, Tells, TellsNone, statuses_of, statuses_by_fault}
 
 -- a refusal keeps its status, whether its line was cut short or not
 pub refused : {S : Type 0} (written : S → Option (List ℕ)) (faults : S → ℕ) (n : ℕ) (text : List ℕ) (before after : S) (result : ℕ) → Ends written faults (suc n) text before after result → (result ≡ suc n) × Prints written faults text before after

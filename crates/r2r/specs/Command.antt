@@ -1,7 +1,6 @@
 -- The words of the command line.
-use Rattle.std.specs.Prelude.{ℕ, ◌==◌, ◌&&◌, List, [], ◌∷◌, map, codes, string_bytes, Bool, false, not, nat_eq, Option, Some, None, if◌then◌else◌}
+use Rattle.std.specs.Prelude.{ℕ, ◌==◌, ◌&&◌, List, [], ◌∷◌, codes, Bool, false, not, nat_eq, Option, Some, None, if◌then◌else◌}
 use Rattle.std.specs.Cmp.Lexicographic.{pointwise}
-use Rattle.std.specs.declared.string.String.{String}
 use Rattle.r2r.specs.declared.command.Command.{Command as Parsed}
 use Rattle.r2r.specs.declared.command.Command.TheVariants as parsed
 

@@ -1,8 +1,7 @@
 -- The ReadyToRun header of a file (ReadyToRun File Format, "Structures"), its section records, and their checks.
-use Rattle.std.specs.Prelude.{ℕ, ◌+◌, ◌-◌, ◌*◌, ◌==◌, ◌&&◌, ◌||◌, List, [], ◌∷◌, ◌++◌, drop, codes, Bool, false, Option, Some, None, nat_le, nat_lt, not, is_some, nat_eq, if◌then◌else◌, unwrap_or}
+use Rattle.std.specs.Prelude.{ℕ, ◌+◌, ◌-◌, ◌*◌, ◌==◌, ◌&&◌, ◌||◌, List, [], ◌∷◌, ◌++◌, drop, codes, Bool, false, Option, Some, None, nat_lt, not, is_some, nat_eq, if◌then◌else◌, unwrap_or}
 use Rattle.std.specs.Option.{option_map, option_map_or}
 use Rattle.std.specs.List.{list_any, starts_with}
-use Rattle.rtr_bytes.specs.declared.fault.Span.{Span}
 use Rattle.rtr_bytes.specs.Field.{u16_of, u32_of}
 use Rattle.rtr_bytes.specs.Checks.{Check, check, holds_or, first_record, records}
 use Rattle.pe_image.specs.Headers.{cli_at, machine_of, native_of, place_of}

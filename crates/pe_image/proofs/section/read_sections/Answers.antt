@@ -1,8 +1,7 @@
-use Rattle.std.proofs.Common.{◌≡◌, ◌+◌, ◌*◌, ◌-◌, ◌<◌, ◌∙◌, refl, Some, None, true, false, sym, ap, subst, arith, ℕ}
-use Rattle.std.specs.Option.{option_map}
+use Rattle.std.proofs.Common.{◌≡◌, ◌+◌, ◌*◌, ◌<◌, ◌∙◌, refl, Some, false, sym, ap, arith, ℕ}
 use Rattle.std.proofs.lemmas.Result.{err_from_is_err_and}
 use Rattle.std.proofs.lemmas.List.Elements.{All-push}
-use Rattle.rtr_bytes.specs.Checks.{fault_or, first_record}
+use Rattle.rtr_bytes.specs.Checks.{first_record}
 use Rattle.rtr_bytes.proofs.Tables.{records-more, first_record-step, first_record-found}
 use Rattle.pe_image.specs.Headers.{section_table_at, section_count, sections_of}
 use Rattle.pe_image.specs.Checks.{raw_range_fits}

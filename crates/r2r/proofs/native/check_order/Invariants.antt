@@ -1,4 +1,4 @@
-use Rattle.std.proofs.Common.{◌≡◌, ◌+◌, ◌*◌, ◌-◌, ◌<◌}
+use Rattle.std.proofs.Common.{◌≡◌, ◌+◌, ◌*◌, ◌-◌}
 use Rattle.rtr_bytes.specs.Checks.{first_record}
 use Rattle.r2r.specs.Native.{ascends, records_at, record_count}
 use Rattle.r2r.proofs.native.check_order.Given as goal

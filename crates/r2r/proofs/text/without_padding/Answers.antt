@@ -1,4 +1,4 @@
-use Rattle.std.proofs.Common.{◌≡◌, ◌<◌, ◌≤◌, ◌∙◌, length, sym, arith}
+use Rattle.std.proofs.Common.{◌∙◌, sym, arith}
 use Rattle.r2r.proofs.Trimmed.{trimmed-take_zero, trimmed-take_other, trimmed-take_none}
 use Rattle.r2r.proofs.text.without_padding.Goals as goal
 use Rattle.r2r.proofs.text.without_padding.Goals.{then-loop-len-test+else-name-len-eq0, else-loop-len-test}

@@ -1,4 +1,4 @@
-use Rattle.std.proofs.Common.{ℕ, List, inl, sym, subst}
+use Rattle.std.proofs.Common.{ℕ, List, inl, subst}
 use Rattle.r2r.specs.Outcome.{Ends}
 use Rattle.r2r.proofs.top.dump.Goals as goal
 

@@ -1,4 +1,4 @@
-use Rattle.std.proofs.Common.{◌≡◌, ◌++◌, ◌∷◌, take, ℕ, map, nat_le, ◌&&◌, if◌then◌else◌}
+use Rattle.std.proofs.Common.{◌≡◌, ◌++◌, take, map, nat_le, ◌&&◌, if◌then◌else◌}
 use Rattle.r2r.proofs.text.Text.section_name.Given as goal
 
 abbrev pub invariant-loop-byte : goal.invariant-loop-byte
