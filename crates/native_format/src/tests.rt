@@ -89,6 +89,11 @@ fn sparse_arrays_read(rt: HostRuntime) -> Result<(), Fail> {
     assert_eq!(rt; one.count(), 1);
     assert_eq!(rt; one.get(0).ok(), Some(Some(3)));
     assert_eq!(rt; one.get(1).ok(), Some(None));
+    // The array of one element that the writer gives.
+    let whole = SparseArray::read(&[0x0C, 4, 0, 0, 0, 2, 2, 2, 2, 0x0C], 0)
+        .ok()
+        .ok_or("whole")?;
+    assert_eq!(rt; whole.get(0).ok(), Some(Some(9)));
     let two = SparseArray::read(&[0x88, 0x02, 0x03, 0x80, 0x00, 0x08], 0)
         .ok()
         .ok_or("two")?;
