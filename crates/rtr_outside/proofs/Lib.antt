@@ -1,2 +1,2 @@
-mod NamedLemmas
+pub mod NamedLemmas
 mod RealLemmas
