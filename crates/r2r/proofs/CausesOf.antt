@@ -60,15 +60,15 @@ seven bytes = by_test (nat_lt file_limit (length bytes)) (first_fault dump_check
     by_test true first = refl
     by_test false first = seven_by_fault first
 
-no_memory_causes : {S : Type 0} (written : S → Option (List ℕ)) (faults : S → ℕ) (contents : Option Contents) (old new : List Call) (name : List ℕ) (before after : S) (result : ℕ) → result ≡ 7 → written after ≡ written before → (new ≡ old) ⊎ (new ≡ old ++ Read name ∷ []) → DumpCauses written faults contents old new name before after result
-no_memory_causes written faults contents old new name before after result e w calls = record {
+no_memory_causes : {S : Type 0} (written : S → Option (List ℕ)) (faults : S → ℕ) (contents : Option Contents) (old new : List Call) (name : List ℕ) (before after : S) (result : ℕ) → result ≡ 7 → written after ≡ written before → faults after ≡ faults before → (new ≡ old) ⊎ (new ≡ old ++ Read name ∷ []) → DumpCauses written faults contents old new name before after result
+no_memory_causes written faults contents old new name before after result e w f calls = record {
   status = rw e refl;
   dumped = λ h. absurd (omega arith);
   read_failed = λ h. absurd (omega arith);
   malformed = λ h. absurd (omega arith);
   too_long = λ h. absurd (omega arith);
   write_fault = λ h. absurd (omega arith);
-  no_memory = λ h. w;
+  no_memory = λ h. (w, f);
   told = λ bytes t c. rw e (seven bytes);
   missing = λ t. rw e refl;
   failed_calls = elim calls [ inl c ↦ inl c | inr c ↦ inr (c, rw e refl) ];
@@ -168,4 +168,4 @@ pub causes_of_end : {S : Type 0} (written : S → Option (List ℕ)) (faults : S
 causes_of_end written faults contents old new name before after result (inl e) =
     reply_causes written faults contents old new name before after result e.0 e.1 e.2 e.3
 causes_of_end written faults contents old new name before after result (inr e) =
-    no_memory_causes written faults contents old new name before after result e.0 e.1 e.2
+    no_memory_causes written faults contents old new name before after result e.0 e.1 e.2 e.3

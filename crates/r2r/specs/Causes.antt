@@ -51,8 +51,8 @@ pub record DumpCauses {S : Type 0} (written : S → Option (List ℕ)) (faults :
   pub too_long : result ≡ 4 → IsToldLonger file_limit contents name × Prints written faults (too_long_line name) before after
   -- 5: the output had a fault while the text was written, and took a front of it
   pub write_fault : result ≡ 5 → Rose (faults before) (faults after) × OfBytes contents name (λ bytes. (first_fault dump_checks bytes ≡ None) × PrintsFront written (dump_text name bytes) before after)
-  -- 7: nothing was written
-  pub no_memory : result ≡ 7 → written after ≡ written before
+  -- 7: nothing was written, and the output had no fault
+  pub no_memory : result ≡ 7 → (written after ≡ written before) × (faults after ≡ faults before)
   -- where the files tell and no read failed, the file's bytes decide
   pub told : (bytes : List ℕ) → Tells contents name bytes → new ≡ old → IsOneOf (statuses_of bytes) result
   pub missing : TellsNone contents name → IsOneOf (2 ∷ 7 ∷ []) result

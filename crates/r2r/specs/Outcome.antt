@@ -56,8 +56,8 @@ abbrev pub Ends : {S : Type 0} → (S → Option (List ℕ)) → (S → ℕ) →
 Ends written faults status text old new result =
     (Appends text (written old) (written new) × (result ≡ status)) ⊎ (CutsShort written faults text old new × (result ≡ faulted status))
 
--- A dump gave its reply and printed it, or found no memory and printed nothing.
+-- A dump gave its reply and printed it, or found no memory and didn't touch the output.
 abbrev pub DumpEnds : {S : Type 0} → (S → Option (List ℕ)) → (S → ℕ) → Option Contents → List Call → List Call → List ℕ → S → S → ℕ → Type 0
 DumpEnds written faults contents old new name before after result =
     ((status : ℕ) × (text : List ℕ) × IsReply contents old new name status text × Ends written faults status text before after result)
-    ⊎ ((result ≡ 7) × (written after ≡ written before) × ((new ≡ old) ⊎ (new ≡ old ++ Read name ∷ [])))
+    ⊎ ((result ≡ 7) × (written after ≡ written before) × (faults after ≡ faults before) × ((new ≡ old) ⊎ (new ≡ old ++ Read name ∷ [])))

@@ -9,6 +9,7 @@ ghost use Rattle.r2r.specs.Outcome.{IsReply, IsFileReply};
 use crate::dump::dump_text;
 use crate::output::Reply;
 use crate::refusals::{malformed, read_failed, too_long};
+use crate::status;
 use rtr_bytes::{NoMemory, ReadRefusal};
 use rtr_outside::{FileRefusal, Files};
 use std::alloc::Global;
@@ -19,10 +20,16 @@ fn reply_to_bytes(alloc: Global, name: &str, bytes: &[u8]) -> Result<Reply, NoMe
     ensures { IfOk result (λ r. IsFileReply name.now bytes.now (first_fault dump_checks bytes.now) r.status r.text) }
 {
     match dump_text(alloc, name, bytes) {
-        Ok(text) => Ok(Reply { status: 0, text }),
+        Ok(text) => Ok(Reply {
+            status: status::DONE,
+            text,
+        }),
         Err(ReadRefusal::Malformed(fault)) => {
             let text = malformed(alloc, name, fault)?;
-            Ok(Reply { status: 3, text })
+            Ok(Reply {
+                status: status::MALFORMED,
+                text,
+            })
         }
         Err(ReadRefusal::NoMemory) => Err(NoMemory),
     }
@@ -42,11 +49,17 @@ pub(crate) fn reply_to_dump<F: Files>(
         Ok(bytes) => reply_to_bytes(alloc, name, &bytes),
         Err(FileRefusal::Failed) => {
             let text = read_failed(alloc, name)?;
-            Ok(Reply { status: 2, text })
+            Ok(Reply {
+                status: status::READ_FAILED,
+                text,
+            })
         }
         Err(FileRefusal::TooLong) => {
             let text = too_long(alloc, name)?;
-            Ok(Reply { status: 4, text })
+            Ok(Reply {
+                status: status::REFUSED,
+                text,
+            })
         }
         Err(FileRefusal::NoMemory) => Err(NoMemory),
     }

@@ -7,6 +7,7 @@ mod dump_reply;
 mod native;
 mod output;
 mod refusals;
+mod status;
 mod text;
 mod top;
 
@@ -24,11 +25,13 @@ fn main(rt: HostRuntime) -> ExitCode {
         Ok(all) => {
             for word in all.skip(1) {
                 if words.push(word).is_err() {
-                    return ExitCode::from(7);
+                    return ExitCode::from(status::NO_MEMORY);
                 }
             }
         }
-        Err(error) if error.kind() == ErrorKind::OutOfMemory => return ExitCode::from(7),
+        Err(error) if error.kind() == ErrorKind::OutOfMemory => return ExitCode::from(
+            status::NO_MEMORY,
+        ),
         // Words that are no text are no command.
         Err(_) => {}
     }

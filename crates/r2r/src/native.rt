@@ -44,8 +44,17 @@ const HEADER_SIZE: u32 = 16;
 /// The bytes of a section record.
 const RECORD_SIZE: u32 = 12;
 
-/// The identifier of this compiler's images.
+/// The size of the section that identifies this compiler's images.
+const IDENTIFIER_SIZE: u32 = 14;
+/// Its bytes, with the zero at the end.
 const IDENTIFIER: &[u8; 14] = b"r2r profile 1\0";
+/// Section types (ReadyToRun File Format, "Sections"): the first and the last of CompilerIdentifier,
+/// ImportSections, RuntimeFunctions and MethodDefEntryPoints, and DelayLoadMethodCallThunks.
+const COMPILER_IDENTIFIER: u32 = 100;
+
+const METHOD_DEF_ENTRY_POINTS: u32 = 103;
+
+const DELAY_LOAD_METHOD_CALL_THUNKS: u32 = 106;
 /// The machine of this compiler's images, IMAGE_FILE_MACHINE_ARM64.
 const MACHINE_ARM64: u16 = 0xAA64;
 
@@ -151,7 +160,10 @@ impl RtrSection {
     fn is_own_kind(&self) -> bool
         ensures { result ≡ is_own_kind self.now.kind }
     {
-        matches!(self.kind, 100..=103 | 106)
+        matches!(
+            self.kind,
+            COMPILER_IDENTIFIER..=METHOD_DEF_ENTRY_POINTS | DELAY_LOAD_METHOD_CALL_THUNKS
+        )
     }
 
     /// The record at a place, once its range is in a section of the file, where that is asked.
@@ -182,10 +194,10 @@ impl RtrSection {
         requires pe { pe.now ≡ headers_of bytes.now }
         ensures { result ≡ is_identifier bytes.now self.now }
     {
-        if self.kind != 100 || self.size != 14 {
+        if self.kind != COMPILER_IDENTIFIER || self.size != IDENTIFIER_SIZE {
             return false;
         }
-        match pe.slice_of_rva(self.rva, 14) {
+        match pe.slice_of_rva(self.rva, IDENTIFIER_SIZE) {
             Some(at) => tail_at(bytes, at).starts_with(IDENTIFIER),
             None => false,
         }

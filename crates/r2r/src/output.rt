@@ -4,11 +4,9 @@ ghost use Rattle.std.specs.Prelude.{◌≡◌, ◌≤◌, OnOk, OnErr};
 ghost use Rattle.rtr_outside.specs.Sink.{Appends, Rose};
 ghost use Rattle.r2r.specs.Outcome.{PrintsFront, Ends};
 
+use crate::status;
 use crate::text::Text;
 use rtr_outside::{Sink, SinkFailed};
-
-/// What the program ends with where the output failed.
-pub(crate) const WRITE_FAULT: u8 = 5;
 
 /// Writes the whole text, in as many pieces as the sink takes.
 pub(crate) fn write_all<S: Sink>(out: &mut S, text: &[u8]) -> Result<(), SinkFailed>
@@ -41,7 +39,7 @@ pub(crate) fn print<S: Sink>(out: &mut S, text: &[u8], status: u8) -> u8
     ensures never_falls { S.faults out.old ≤ S.faults out.new }
 {
     match write_all(out, text) {
-        Err(_) if status == 0 => WRITE_FAULT,
+        Err(_) if status == status::DONE => status::WRITE_FAULT,
         _ => status,
     }
 }

@@ -1,4 +1,4 @@
-//! The examples of the specification, and one broken file for each check.
+//! Examples, and one broken file for each check.
 
 use super::*;
 use rtr_outside::{FILE_LIMIT, MemFiles, MemSink, OpenGate, SureFiles, SureSink};

@@ -45,15 +45,22 @@ impl Text {
         Ok(())
     }
 
+    /// Adds words, and bytes behind them.
+    fn words_and(&mut self, words: &str, bytes: &[u8]) -> Result<(), NoMemory>
+        ensures { OnOk result (self.new ≡ self.old ++ words.now ++ bytes.now) }
+    {
+        self.words(words)?;
+        self.bytes.extend_from_slice(bytes)?;
+        Ok(())
+    }
+
     /// Adds words, and a number in eight digits of hexadecimal.
     pub(crate) fn hex32(&mut self, words: &str, number: u32) -> Result<(), NoMemory>
         ensures { OnOk result (self.new ≡ self.old ++ words.now ++ hex8 number) }
     {
         let mut digits = [0; 8];
         let _ = hex::encode_to_slice(number.to_be_bytes(), &mut digits);
-        self.words(words)?;
-        self.bytes.extend_from_slice(&digits)?;
-        Ok(())
+        self.words_and(words, &digits)
     }
 
     /// Adds words, and a number in four digits of hexadecimal.
@@ -62,19 +69,14 @@ impl Text {
     {
         let mut digits = [0; 4];
         let _ = hex::encode_to_slice(number.to_be_bytes(), &mut digits);
-        self.words(words)?;
-        self.bytes.extend_from_slice(&digits)?;
-        Ok(())
+        self.words_and(words, &digits)
     }
 
     /// Adds words, and a number in decimal.
     pub(crate) fn decimal(&mut self, words: &str, number: u64) -> Result<(), NoMemory>
         ensures { OnOk result (self.new ≡ self.old ++ words.now ++ decimal number) }
     {
-        self.words(words)?;
-        self.bytes
-            .extend_from_slice(Buffer::new().format(number).as_bytes())?;
-        Ok(())
+        self.words_and(words, Buffer::new().format(number).as_bytes())
     }
 
     /// Adds words, and a name with a question mark for each control character.

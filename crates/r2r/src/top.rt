@@ -9,6 +9,7 @@ use crate::command::Command;
 use crate::dump_reply::reply_to_dump;
 use crate::output::print;
 use crate::refusals::USAGE;
+use crate::status;
 use rtr_bytes::NoMemory;
 use rtr_outside::{Files, Gate, Sink};
 use std::alloc::Global;
@@ -22,7 +23,7 @@ fn dump<F: Files, S: Sink>(alloc: Global, name: &str, files: &mut F, out: &mut S
 {
     match reply_to_dump(alloc, name, files) {
         Ok(reply) => print(out, reply.text.as_slice(), reply.status),
-        Err(NoMemory) => 7,
+        Err(NoMemory) => status::NO_MEMORY,
     }
 }
 
@@ -54,7 +55,7 @@ pub fn r2r<R: Threads + Sync, F: Files, S: Sink, G: Gate>(
     ensures never_falls { S.faults out.old ≤ S.faults out.new }
 {
     match Command::parse(words) {
-        Command::Usage => print(out, USAGE.as_bytes(), 1),
+        Command::Usage => print(out, USAGE.as_bytes(), status::USAGE),
         Command::Dump(name) => dump(alloc, name, files, out),
     }
 }
