@@ -1,4 +1,4 @@
-//! A fixup as its kind's byte and its payload: the one table of the kinds, in both directions.
+//! A fixup as its kind's byte and its payload, in both directions.
 
 ghost use Rattle.std.specs.Prelude.{◌≡◌, Some, IfSome};
 ghost use Rattle.fixup_sigs.specs.Fixup.{signature, signature_of, shape_of};
@@ -15,7 +15,9 @@ use crate::kind::{
 pub enum Payload {
     /// A row, a number or an offset.
     Number(u32),
+    /// A type.
     OfType(SigType),
+    /// A field's token.
     OfField(FieldToken),
     /// An offset, and then the field that is to lie there.
     OffsetAndField(u32, FieldToken),
@@ -24,16 +26,22 @@ pub enum Payload {
 /// Which payload it is.
 #[derive(Clone, Copy)]
 pub enum Shape {
+    /// A row, a number or an offset.
     Number,
+    /// A type.
     OfType,
+    /// A field's token.
     OfField,
+    /// An offset, and then a field's token.
     OffsetAndField,
 }
 
 /// A fixup's kind, as its byte, and its payload.
 #[derive(Clone, Copy)]
 pub struct Signature {
+    /// The byte of the kind.
     pub kind: u8,
+    /// What stands behind it.
     pub payload: Payload,
 }
 

@@ -1,5 +1,6 @@
 -- Native integers: what bytes begin with is spelled there, and nothing else is.
-use Rattle.std.proofs.Common.{◌≡◌, ℕ, zero, suc, ◌+◌, ◌*◌, ◌-◌, ◌/◌, ◌%◌, ◌^◌, ◌<◌, ◌≤◌, Bool, true, false, cond, eqb, ltb, leb, List, [], ◌∷◌, ◌++◌, length, get_or, take, drop, Option, Some, None, refl, sym, ap, ◌∙◌, arith, inl, inr}
+use Rattle.std.proofs.Common.{◌≡◌, ℕ, zero, suc, ◌+◌, ◌*◌, ◌-◌, ◌/◌, ◌%◌, ◌^◌, ◌<◌, ◌≤◌, Bool, true, false, cond, eqb, ltb, leb, List, [], ◌∷◌, ◌++◌, length, get_or, take, drop, Option, Some, None, refl, sym, ap, ◌∙◌, append_assoc, length-append, arith, inl, inr}
+use Rattle.std.proofs.Math.Seq.{drop-append_seam, take-append_seam}
 use Rattle.std.proofs.lemmas.Bool.{eq-eqb, eqb-true, eqb-false, ne_eqb, le-leb, leb-true, ltb-true, lt-ltb, cases_Bool, cases_lt}
 use Rattle.std.proofs.lemmas.List.{append-nil, take_at, take-append-drop, length-append, length-take-le, length-drop, drop-append-le, drop-take, drop_all, get_or_append_left, get_or-take, get_or-drop, get_or_past, length-take, take_rest}
 use Rattle.std.proofs.lemmas.Option.{cond_some, some_pair_parts, none-some}
@@ -280,3 +281,17 @@ uint_small bytes at v next fits e =
       small s b (inr (inr (inl h))) = omega (arith, shifted_below 3 3 v s b h)
       small s b (inr (inr (inr (inl h)))) = omega (arith, shifted_below 4 7 v s b h)
       small s b (inr (inr (inr (inr h)))) = omega (arith, h.2, little_from-lt 0 4 (drop 1 s) (λ i. rw get_or-drop (b (1 + i))))
+
+-- a part between two others, by its place and its length
+part_between : (before part rest : List ℕ) → take (length before + length part - length before) (drop (length before) (before ++ part ++ rest)) ≡ part
+part_between before part rest =
+    let size : length before + length part - length before ≡ length part = omega arith in
+    rw (append_assoc, drop-append_seam, size, take-append_seam) refl
+
+-- the shortest spelling is read again behind whatever bytes, and whatever follows
+pub short_again : (v : ℕ) (before rest : List ℕ) → v < 2 ^ 32 → IsUintBetween (before ++ short_uint v ++ rest) (length before) v (length before + length (short_uint v))
+short_again v before rest h = record {
+  ordered = omega arith;
+  within = rw (length-append, length-append) (omega arith);
+  spelled = rw (part_between before (short_uint v) rest) (short_spells v h);
+}

@@ -10,8 +10,11 @@ const ONE: [u8; 1] = [0x18];
 
 #[test]
 fn integers(rt: HostRuntime) -> Result<(), Fail> {
-    let table: [(u32, &[u8]); 8] = [
+    let table: [(u32, &[u8]); 10] = [
         (0, &[0x00]),
+        // The ids of two entries: function 3 without fixups, and with a list behind the id.
+        (6, &[0x0C]),
+        (13, &[0x1A]),
         (12, &[0x18]),
         (127, &[0xFE]),
         (128, &[0x01, 0x02]),
@@ -48,6 +51,13 @@ fn slot_lists(rt: HostRuntime) -> Result<(), Fail> {
         .ok()
         .ok_or("memory")?;
     assert_eq!(rt; one.as_slice(), [0x01, 0x73, 0x00].as_slice());
+    // Behind an entry's id.
+    let entry = [0x1A, 0x01, 0x73, 0x00];
+    let slots = read_nibbles(rt.alloc(), &entry, 1).ok().ok_or("a list")?;
+    assert_eq!(rt;
+        slots.as_slice(),
+        [at(1, 0), at(1, 3), at(1, 10)].as_slice()
+    );
     let two = write_nibbles(rt.alloc(), &[at(2, 10)])
         .ok()
         .ok_or("memory")?;

@@ -1,4 +1,5 @@
-//! Little-endian fields by their place, places and faults of a file, and the lists of public records.
+//! Little-endian fields by their place, compressed integers, places and faults of a file, and the lists of
+//! public records.
 //!
 //! Every reader of a file stands on this crate. A reading call takes at most 2^31 bytes, so that each place
 //! in them, and each place one field behind them, is a `u32`.
