@@ -3,8 +3,11 @@
 
 mod cli;
 mod layout;
+mod numbers;
 mod pe;
+mod places;
 mod section;
+mod values;
 
 pub use pe::Pe;
 pub use section::PeSection;

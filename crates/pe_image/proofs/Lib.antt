@@ -1,0 +1,3 @@
+mod NumbersInARow
+mod PlacesLemmas
+mod HeaderLemmas
