@@ -1,3 +1,6 @@
 mod NumbersInARow
 mod PlacesLemmas
 mod HeaderLemmas
+mod TableLemmas
+mod RawLemmas
+mod ReadBack
