@@ -4,3 +4,7 @@ mod HeaderLemmas
 mod TableLemmas
 mod RawLemmas
 mod ReadBack
+mod ValuesLemmas
+mod WrittenLemmas
+mod InputLemmas
+mod FileLemmas

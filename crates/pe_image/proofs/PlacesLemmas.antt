@@ -1,6 +1,7 @@
 -- Multiples of a unit, and places that count on.
-use Rattle.std.proofs.Common.{◌≡◌, ℕ, ◌+◌, ◌-◌, ◌*◌, ◌%◌, ◌^◌, ◌<◌, ◌≤◌, Bool, List, [], ◌∷◌, ◌++◌, length, refl, sym, ap, ◌∙◌, arith}
+use Rattle.std.proofs.Common.{◌≡◌, ℕ, ◌+◌, ◌-◌, ◌*◌, ◌%◌, ◌^◌, ◌<◌, ◌≤◌, Bool, List, [], ◌∷◌, ◌++◌, length, drop, get_or, refl, sym, ap, ◌∙◌, arith}
 use Rattle.std.specs.Prelude.{sum_by, max}
+use Rattle.std.proofs.lemmas.List.{at_drop_more}
 use Rattle.std.proofs.lemmas.List.Sums.{sum_by-cons}
 use Rattle.pe_image.specs.declared.section.PeSection.{PeSection}
 use Rattle.pe_image.specs.Places.{aligned, section_end, highest_end, dat_rva, cod_rva, placed_from, end_from, AreLaid}
@@ -65,3 +66,10 @@ laid [] from at file_end h m e = omega arith
 laid (s ∷ ss) from at file_end h m e =
     let a = aligned-512 s.raw_size in
     (h, m, laid ss (at + s.raw_size) (at + aligned 512 s.raw_size) file_end (omega arith) (omega arith) e)
+
+-- the place behind the next section's raw bytes isn't behind all of them
+pub next_within : (ss : List PeSection) (at i x size last : ℕ) (d : PeSection) → i < length ss → size ≡ (get_or ss i d).raw_size → x ≡ aligned 512 size → end_from at (drop i ss) ≡ last → at + x ≤ last
+next_within ss at i x size last d h e f g =
+    let step = at_drop_more (end_from at) ss i d h in
+    let grows = end_from-grows (drop (i + 1) ss) (at + aligned 512 (get_or ss i d).raw_size) in
+    omega (arith, step, grows, ap (λ (t : ℕ). aligned 512 t) e, f, g)

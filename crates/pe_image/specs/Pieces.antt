@@ -1,5 +1,5 @@
 -- The pieces that a writer of a PE file writes, one behind the other. What the file promises by place stands apart.
-use Rattle.std.specs.Prelude.{ℕ, ◌+◌, ◌-◌, List, [], ◌∷◌, ◌++◌, length, take, drop, map, replicate}
+use Rattle.std.specs.Prelude.{ℕ, ◌+◌, ◌-◌, ◌<◌, ◌≤◌, List, [], ◌∷◌, ◌++◌, length, take, drop, map, replicate}
 use Rattle.std.specs.List.{flat_map}
 use Rattle.byteorder.specs.Endian.{little_bytes}
 use Rattle.pe_image.specs.declared.section.PeSection.{PeSection}
@@ -57,6 +57,10 @@ section_bytes s = s.name ++ numbers_bytes (section_numbers s)
 -- bytes, and zeros up to a multiple of 512
 unfoldable pub padded : List ℕ → List ℕ
 padded bytes = bytes ++ replicate (aligned 512 (length bytes) - length bytes) 0
+
+-- its raw range ends in the file, where it isn't empty
+abbrev pub IsInFile : List ℕ → PeSection → Type 0
+IsInFile bytes s = 0 < s.raw_size → s.raw_at + s.raw_size ≤ length bytes
 
 -- a section's raw bytes
 unfoldable pub raw_of : List ℕ → PeSection → List ℕ

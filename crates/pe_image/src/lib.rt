@@ -8,6 +8,7 @@ mod pe;
 mod places;
 mod section;
 mod values;
+mod written;
 
 pub use pe::Pe;
 pub use section::PeSection;

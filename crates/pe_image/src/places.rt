@@ -74,17 +74,17 @@ impl NewSections {
 
 /// Appends zeros, so that bytes of a length end at a multiple of 512.
 pub(crate) fn put_padding(out: &mut Vec<u8>, len: usize) -> Result<(), NoMemory>
-    requires { vec_len out.old + len + 512 < 2 ^ 63 }
+    requires { len + 512 < 2 ^ 64 }
     ensures { OnOk result (out.new.items ≡ out.old.items ++ replicate (aligned 512 len - len) 0) }
 {
     let more = aligned(len as u64, FILE_ALIGNMENT) as usize - len;
-    out.resize(out.len() + more, 0)?;
+    out.extend_from_slice(&[0; 512][..more])?;
     Ok(())
 }
 
 /// Appends bytes, and zeros up to a multiple of 512.
 pub(crate) fn put_padded(out: &mut Vec<u8>, bytes: &[u8]) -> Result<(), NoMemory>
-    requires { vec_len out.old + 2 * length bytes.now + 512 < 2 ^ 63 }
+    requires { length bytes.now + 512 < 2 ^ 64 }
     ensures { OnOk result (out.new.items ≡ out.old.items ++ padded bytes.now) }
 {
     out.extend_from_slice(bytes)?;
