@@ -91,3 +91,123 @@ unfolding raw_parts
 all_match bytes dat cod sections h =
     AllZip-append Matches sections (dat_section sections (length dat) ∷ cod_section sections (length dat) (length cod) ∷ []) (map (raw_of bytes) sections) (dat ∷ cod ∷ []) (old_match bytes sections h)
     (new_match dat (dat_section sections (length dat)) refl, (new_match cod (cod_section sections (length dat) (length cod)) refl, tt))
+
+-- ---- the whole file
+
+-- what stands together
+pub record Parts (sections : List PeSection) (bytes dat cod : List ℕ) (cli : ℕ) : Type 0 where
+  pub writable : IsWritable sections (length dat) (length cod) cli
+  pub headers : HeadersFit sections
+  pub raw : AllWhole bytes sections
+  pub values : AreInRange (header_values sections bytes (length dat) (length cod) cli)
+
+abbrev pub the_file : List PeSection → List ℕ → List ℕ → List ℕ → ℕ → List ℕ
+the_file sections bytes dat cod cli = file_of (header_values sections bytes (length dat) (length cod) cli) (written_sections sections (length dat) (length cod)) (raw_parts sections bytes dat cod)
+
+table_fits : (sections : List PeSection) (bytes dat cod : List ℕ) (cli : ℕ) → Parts sections bytes dat cod cli → HeadersFit (placed_from (raw_start sections) (all_sections sections (length dat) (length cod)))
+table_fits sections bytes dat cod cli p =
+    let room = p.writable.room_in_file in
+    HeadersFit-placed (all_sections sections (length dat) (length cod)) (raw_start sections)
+    (HeadersFit-append sections (dat_section sections (length dat) ∷ cod_section sections (length dat) (length cod) ∷ []) p.headers (new_fit sections (length dat) (length cod) cli p.writable))
+    (omega (arith, end_below sections (length dat) (length cod)))
+
+count_is : (sections : List PeSection) (dat_len cod_len : ℕ) → length (placed_from (raw_start sections) (all_sections sections dat_len cod_len)) ≡ length sections + 2
+count_is sections dat_len cod_len =
+    omega (arith, length-placed_from (all_sections sections dat_len cod_len) (raw_start sections), length-append sections (dat_section sections dat_len ∷ cod_section sections dat_len cod_len ∷ []))
+
+head_length : (v : HeaderValues) (sections placed : List PeSection) → HeadersFit placed → length placed ≡ length sections + 2 → length (padded (header_bytes v ++ flat_map section_bytes placed)) ≡ raw_start sections
+head_length v sections placed h n =
+    let table = flat_map section_bytes placed in
+    let size : length (header_bytes v ++ table) ≡ headers_end (length sections + 2) = omega (arith, length-append (header_bytes v) table, length-header_bytes v, length-table placed h, n) in
+    length-padded (header_bytes v ++ table) ∙ ap (λ (t : ℕ). aligned 512 t) size
+
+-- each part stands at its place
+pub file_holds : (sections : List PeSection) (bytes dat cod : List ℕ) (cli : ℕ) → Parts sections bytes dat cod cli
+    → AllZip (Holds (the_file sections bytes dat cod cli)) (placed_from (raw_start sections) (all_sections sections (length dat) (length cod))) (raw_parts sections bytes dat cod)
+unfolding file_of written_sections
+file_holds sections bytes dat cod cli p =
+    let v = header_values sections bytes (length dat) (length cod) cli in
+    let all = all_sections sections (length dat) (length cod) in
+    let placed = placed_from (raw_start sections) all in
+    let head = padded (header_bytes v ++ flat_map section_bytes placed) in
+    let parts = raw_parts sections bytes dat cod in
+    let size : length head ≡ raw_start sections = head_length v sections placed (table_fits sections bytes dat cod cli p) (count_is sections (length dat) (length cod)) in
+    let P : ℕ → Type 0 = λ t. AllZip (Holds (head ++ flat_map padded parts)) (placed_from t all) parts in
+    subst P size (parts_hold all parts head (all_match bytes dat cod sections p.raw))
+
+pub file_length : (sections : List PeSection) (bytes dat cod : List ℕ) (cli : ℕ) → Parts sections bytes dat cod cli
+    → length (the_file sections bytes dat cod cli) ≡ end_from (raw_start sections) (all_sections sections (length dat) (length cod))
+unfolding file_of written_sections
+file_length sections bytes dat cod cli p =
+    let v = header_values sections bytes (length dat) (length cod) cli in
+    let all = all_sections sections (length dat) (length cod) in
+    let placed = placed_from (raw_start sections) all in
+    let head = padded (header_bytes v ++ flat_map section_bytes placed) in
+    let parts = raw_parts sections bytes dat cod in
+    let size : length head ≡ raw_start sections = head_length v sections placed (table_fits sections bytes dat cod cli p) (count_is sections (length dat) (length cod)) in
+    length-append head (flat_map padded parts) ∙ ap (λ (t : ℕ). t + length (flat_map padded parts)) size ∙ length-parts all parts (raw_start sections) (all_match bytes dat cod sections p.raw)
+
+-- the file begins with its headers
+file_begins : (v : HeaderValues) (placed : List PeSection) (parts : List (List ℕ)) → (rest : List ℕ) × (file_of v placed parts ≡ header_bytes v ++ (flat_map section_bytes placed ++ rest))
+unfolding file_of padded
+file_begins v placed parts =
+    let a = header_bytes v in
+    let b = flat_map section_bytes placed in
+    let z = replicate (aligned 512 (length (a ++ b)) - length (a ++ b)) 0 in
+    let r = flat_map padded parts in
+    (z ++ r, ap (λ (t : List ℕ). t ++ r) (append_assoc a b z) ∙ append_assoc a (b ++ z) r ∙ ap (λ (t : List ℕ). a ++ t) (append_assoc b z r))
+
+pub file_fields : (sections : List PeSection) (bytes dat cod : List ℕ) (cli : ℕ) → Parts sections bytes dat cod cli
+    → All (StandsIn (the_file sections bytes dat cod cli)) (header_fields (header_values sections bytes (length dat) (length cod) cli))
+file_fields sections bytes dat cod cli p =
+    let v = header_values sections bytes (length dat) (length cod) cli in
+    let b = file_begins v (written_sections sections (length dat) (length cod)) (raw_parts sections bytes dat cod) in
+    let P : List ℕ → Type 0 = λ t. All (StandsIn t) (header_fields v) in
+    subst P (sym b.1) (header_stands v (flat_map section_bytes (written_sections sections (length dat) (length cod)) ++ b.0) p.values)
+
+-- the headers as the checks read them
+pub file_has : (sections : List PeSection) (bytes dat cod : List ℕ) (cli : ℕ) → Parts sections bytes dat cod cli → HasHeaders (the_file sections bytes dat cod cli) (length sections + 2) cli
+unfolding header_values
+file_has sections bytes dat cod cli p =
+    let out = the_file sections bytes dat cod cli in
+    let fields = file_fields sections bytes dat cod cli p in
+    let field : ℕ → Type 0 = λ k. ℕ in
+    let start = aligned-512 (headers_end (length sections + 2)) in
+    let number = λ (o : Option ℕ). unwrap_or o 0 in
+    record {
+      long = omega (arith, file_length sections bytes dat cod cli p, end_from-grows (all_sections sections (length dat) (length cod)) (raw_start sections));
+      dos = ap number (fields 0 (at 0 0 0) (omega arith));
+      pe = ap number (fields 1 (at 0 0 0) (omega arith));
+      signature = ap number (fields 2 (at 0 0 0) (omega arith));
+      sections = ap number (fields 4 (at 0 0 0) (omega arith));
+      optional_size = ap number (fields 5 (at 0 0 0) (omega arith));
+      magic = ap number (fields 7 (at 0 0 0) (omega arith));
+      directories = ap number (fields 30 (at 0 0 0) (omega arith));
+      cli_rva = ap number (fields 46 (at 0 0 0) (omega arith));
+      cli_size = ap number (fields 47 (at 0 0 0) (omega arith));
+    }
+
+-- the section table is the one that was written
+pub file_sections : (sections : List PeSection) (bytes dat cod : List ℕ) (cli : ℕ) → Parts sections bytes dat cod cli
+    → sections_of (the_file sections bytes dat cod cli) ≡ placed_from (raw_start sections) (all_sections sections (length dat) (length cod))
+unfolding written_sections
+file_sections sections bytes dat cod cli p =
+    let out = the_file sections bytes dat cod cli in
+    let v = header_values sections bytes (length dat) (length cod) cli in
+    let placed = placed_from (raw_start sections) (all_sections sections (length dat) (length cod)) in
+    let b = file_begins v placed (raw_parts sections bytes dat cod) in
+    let count = count_is sections (length dat) (length cod) in
+    let has = file_has sections bytes dat cod cli p in
+    let table : drop 328 out ≡ flat_map section_bytes placed ++ b.0 = ap (λ (t : List ℕ). drop 328 t) b.1 ∙ drop_at (header_bytes v) (flat_map section_bytes placed ++ b.0) 328 (length-header_bytes v) in
+    sections-are out (length sections + 2) cli has
+    ∙ ap (λ (t : ℕ). records (section_at out) 328 40 t) (sym count)
+    ∙ table-is placed out b.0 328 (table_fits sections bytes dat cod cli p) (omega (arith, has.long, count)) table
+
+pub file_laid : (sections : List PeSection) (bytes dat cod : List ℕ) (cli : ℕ) → Parts sections bytes dat cod cli
+    → AreLaid (headers_end (length sections + 2)) (sections_of (the_file sections bytes dat cod cli)) (length (the_file sections bytes dat cod cli))
+file_laid sections bytes dat cod cli p =
+    let all = all_sections sections (length dat) (length cod) in
+    let start = aligned-512 (headers_end (length sections + 2)) in
+    let P : List PeSection → Type 0 = λ t. AreLaid (headers_end (length sections + 2)) t (length (the_file sections bytes dat cod cli)) in
+    subst P (sym (file_sections sections bytes dat cod cli p))
+    (laid all (headers_end (length sections + 2)) (raw_start sections) (length (the_file sections bytes dat cod cli)) (omega arith) start.multiple (omega (arith, file_length sections bytes dat cod cli p)))

@@ -8,3 +8,5 @@ mod ValuesLemmas
 mod WrittenLemmas
 mod InputLemmas
 mod FileLemmas
+mod RangeLemmas
+mod Promises

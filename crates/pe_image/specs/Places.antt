@@ -1,5 +1,5 @@
 -- Where the parts of a written file stand, in the image and in the file.
-use Rattle.std.specs.Prelude.{◌≡◌, ℕ, ◌+◌, ◌*◌, ◌%◌, ◌≤◌, List, [], ◌∷◌, ◌++◌, length, codes, max}
+use Rattle.std.specs.Prelude.{◌≡◌, ℕ, ◌+◌, ◌*◌, ◌%◌, ◌≤◌, List, [], ◌∷◌, ◌++◌, length, codes, max, sum_by}
 use Rattle.std.specs.Int.{next_multiple_of}
 use Rattle.pe_image.specs.declared.section.PeSection.{PeSection}
 
@@ -71,6 +71,10 @@ written_sections sections dat_len cod_len = placed_from (raw_start sections) (al
 
 unfoldable pub written_length : List PeSection → ℕ → ℕ → ℕ
 written_length sections dat_len cod_len = end_from (raw_start sections) (all_sections sections dat_len cod_len)
+
+-- no file is longer: the headers, all raw bytes, and 512 for each section and once more
+abbrev pub length_bound : List PeSection → ℕ → ℕ → ℕ
+length_bound sections dat_len cod_len = headers_end (length sections + 2) + sum_by (λ s. s.raw_size) sections + dat_len + cod_len + 512 * (length sections + 3)
 
 -- raw ranges in order that don't overlap: the first begins at or behind a place, each at a multiple of 512, and
 -- the last ends at or before the file's end

@@ -1,13 +1,16 @@
 -- A written PE file: when one can be written, the numbers of its headers by their places (PE/COFF 2 to 3.4), and the
 -- bytes that its RVAs keep.
-use Rattle.std.specs.Prelude.{◌≡◌, ℕ, ◌+◌, ◌-◌, ◌*◌, ◌^◌, ◌<◌, ◌≤◌, ◌==◌, ◌||◌, List, [], ◌∷◌, length, take, drop, All, sum_by, nat_le, Option, Some, if◌then◌else◌}
+use Rattle.std.specs.Prelude.{◌≡◌, ℕ, ◌+◌, ◌-◌, ◌*◌, ◌^◌, ◌<◌, ◌≤◌, ◌==◌, ◌||◌, List, [], ◌∷◌, length, take, drop, All, sum_by, nat_le, Option, Some, IsSome, None, if◌then◌else◌}
 use Rattle.rtr_bytes.specs.declared.fault.Span.{Span}
+use Rattle.rtr_bytes.specs.declared.fault.Fault.{Fault}
+use Rattle.rtr_bytes.specs.Checks.{first_fault}
 use Rattle.rtr_bytes.specs.Field.{field_at, u32_of}
 use Rattle.pe_image.specs.declared.section.PeSection.{PeSection}
 use Rattle.pe_image.specs.declared.values.HeaderValues.{HeaderValues}
 use Rattle.pe_image.specs.Sections.{slice_of_rva}
-use Rattle.pe_image.specs.Headers.{optional_at, directories_offset}
-use Rattle.pe_image.specs.Places.{aligned, highest_end, dat_rva, cod_rva, headers_end}
+use Rattle.pe_image.specs.Headers.{optional_at, directories_offset, place_of, cli_at}
+use Rattle.pe_image.specs.Checks.{pe_checks}
+use Rattle.pe_image.specs.Places.{aligned, highest_end, dat_rva, cod_rva, headers_end, length_bound}
 
 -- When a file can be written behind k input sections.
 pub record IsWritable (sections : List PeSection) (dat_len cod_len cli_at : ℕ) : Type 0 where
@@ -16,7 +19,7 @@ pub record IsWritable (sections : List PeSection) (dat_len cod_len cli_at : ℕ)
   -- each RVA has 32 bits
   pub room_in_image : highest_end sections + dat_len + cod_len + 131072 < 2 ^ 32
   -- each place in the file has 32 bits
-  pub room_in_file : headers_end (length sections + 2) + sum_by (λ s. s.raw_size) sections + dat_len + cod_len + 512 * (length sections + 3) < 2 ^ 32
+  pub room_in_file : length_bound sections dat_len cod_len < 2 ^ 32
   -- the new CLI header's 72 bytes are among those of `.r2rdat`
   pub cli_in_dat : (dat_rva sections ≤ cli_at) × (cli_at + 72 ≤ dat_rva sections + dat_len)
 
@@ -96,3 +99,16 @@ abbrev pub FindsPart : List PeSection → List ℕ → ℕ → List ℕ → Type
 FindsPart sections bytes rva part =
     (start len : ℕ) → 0 < len → start + len ≤ length part
     → (place : ℕ) × (slice_of_rva sections (rva + start) len ≡ Some place) × (take len (drop place bytes) ≡ take len (drop start part))
+
+-- directory 14 names a CLI header in a section: the 72 bytes at a place of a part
+abbrev pub HasCliHeader : List ℕ → ℕ → List ℕ → ℕ → Type 0
+HasCliHeader bytes rva part start = (place_of bytes rva 72 ≡ Some (cli_at bytes)) × (take 72 (drop (cli_at bytes) bytes) ≡ take 72 (drop start part))
+
+-- read back, the bytes fail at most a check of what their CLI header says: its cb, and the range of the metadata
+abbrev pub FailsLate : List ℕ → Type 0
+FailsLate bytes = (f : Fault) → first_fault pe_checks bytes ≡ Some f → 13 ≤ f.check
+
+-- they fail none where the CLI header that stands at a place of a part has cb of 72 or more and names metadata in a section
+abbrev pub IsWellFormedWith : List ℕ → List ℕ → ℕ → Type 0
+IsWellFormedWith bytes part start =
+    72 ≤ u32_of part start → IsSome (place_of bytes (u32_of part (start + 8)) (u32_of part (start + 12))) → first_fault pe_checks bytes ≡ None

@@ -12,6 +12,7 @@ mod written;
 
 pub use pe::Pe;
 pub use section::PeSection;
+pub use written::write_pe;
 
 #[cfg(test)]
 mod tests;

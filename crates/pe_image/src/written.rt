@@ -2,13 +2,11 @@
 
 ghost use Rattle.std.specs.Prelude.{◌≡◌, ℕ, ◌+◌, ◌-◌, ◌*◌, ◌^◌, ◌≤◌, ◌<◌, ◌++◌, Some, None, length, map, take, drop, All, IfOk, OnOk, IsSome, [], ◌∷◌, if◌then◌else◌};
 ghost use Rattle.std.specs.List.{flat_map};
-ghost use Rattle.rtr_bytes.specs.declared.fault.Fault.{Fault};
-ghost use Rattle.rtr_bytes.specs.Field.{u32_of};
 ghost use Rattle.rtr_bytes.specs.Checks.{first_fault};
-ghost use Rattle.pe_image.specs.Headers.{pe_at, is_wide, headers_of, sections_of, place_of};
+ghost use Rattle.pe_image.specs.Headers.{pe_at, is_wide, headers_of, sections_of};
 ghost use Rattle.pe_image.specs.Checks.{pe_checks};
-ghost use Rattle.pe_image.specs.Places.{dat_section, cod_section, placed_from, end_from, raw_start, all_sections, written_sections, headers_end};
-ghost use Rattle.pe_image.specs.Written.{image_size, header_values, IsWritable};
+ghost use Rattle.pe_image.specs.Places.{dat_rva, cod_rva, dat_section, cod_section, placed_from, end_from, raw_start, written_sections, written_length, length_bound, headers_end, AreLaid};
+ghost use Rattle.pe_image.specs.Written.{image_size, header_values, header_fields, StandsIn, IsWritable, KeepsRanges, FindsPart, HasCliHeader, FailsLate, IsWellFormedWith};
 ghost use Rattle.pe_image.specs.Pieces.{header_bytes, section_bytes, padded, raw_of, raw_parts, file_of, IsInFile};
 
 use crate::numbers::{Number, put_numbers};
@@ -159,4 +157,69 @@ fn headers(
     let len = out.len();
     put_padding(&mut out, len)?;
     Ok(out)
+}
+
+/// The whole file, from its headers' values and its sections' bytes.
+fn join(
+    alloc: Global,
+    values: &HeaderValues,
+    sections: &[PeSection],
+    new: &NewSections,
+    bytes: &[u8],
+    dat: &[u8],
+    cod: &[u8],
+) -> Result<Vec<u8>, NoMemory>
+    requires first { values.now.headers_size ≡ raw_start sections.now }
+    requires room { end_from (raw_start sections.now) (sections.now ++ new.now.dat ∷ new.now.cod ∷ []) < 2 ^ 32 }
+    requires raw { All (IsInFile bytes.now) sections.now }
+    requires dat { length dat.now < 2 ^ 32 }
+    requires cod { length cod.now < 2 ^ 32 }
+    ensures { IfOk result (λ out. out.items ≡ file_of values.now (placed_from (raw_start sections.now) (sections.now ++ new.now.dat ∷ new.now.cod ∷ [])) (raw_parts sections.now bytes.now dat.now cod.now)) }
+{
+    let mut out = headers(alloc, values, sections, new)?;
+    put_raw(&mut out, sections, bytes)?;
+    put_padded(&mut out, dat)?;
+    put_padded(&mut out, cod)?;
+    Ok(out)
+}
+
+/// Writes a PE file of an input's sections and two more, `.r2rdat` with the bytes `dat` and `.r2rcod` with `cod`. The CLI
+/// header is the one that stands in `dat` at the RVA `cli_at`. The input's bytes keep their RVAs, and raw places move.
+pub fn write_pe(
+    alloc: Global,
+    input: &Pe,
+    bytes: &[u8],
+    dat: &[u8],
+    cod: &[u8],
+    cli_at: u32,
+) -> Result<Vec<u8>, NoMemory>
+    requires small { length bytes.now ≤ 2 ^ 31 }
+    // The headers are those of the bytes, which pass their checks.
+    requires read { input.now ≡ headers_of bytes.now }
+    requires well_formed { first_fault pe_checks bytes.now ≡ None }
+    requires writable { IsWritable input.now.sections (length dat.now) (length cod.now) cli_at }
+
+    // Each number of the headers stands at its place.
+    ensures headers { IfOk result (λ out. All (StandsIn out.items)
+        (header_fields (header_values input.now.sections bytes.now (length dat.now) (length cod.now) cli_at))) }
+    // The input's section headers with raw places moved, and then the two new ones.
+    ensures sections { IfOk result (λ out. sections_of out.items ≡ written_sections input.now.sections (length dat.now) (length cod.now)) }
+    ensures laid { IfOk result (λ out. AreLaid (headers_end (length input.now.sections + 2)) (sections_of out.items) (length out.items)) }
+    ensures length { IfOk result (λ out. length out.items ≡ written_length input.now.sections (length dat.now) (length cod.now)) }
+    ensures bounded { IfOk result (λ out. length out.items ≤ length_bound input.now.sections (length dat.now) (length cod.now)) }
+
+    // Bytes by their RVAs.
+    ensures kept { IfOk result (λ out. KeepsRanges input.now.sections bytes.now (sections_of out.items) out.items) }
+    ensures dat { IfOk result (λ out. FindsPart (sections_of out.items) out.items (dat_rva input.now.sections) dat.now) }
+    ensures cod { IfOk result (λ out. FindsPart (sections_of out.items) out.items (cod_rva input.now.sections (length dat.now)) cod.now) }
+
+    // Read back.
+    ensures cli { IfOk result (λ out. HasCliHeader out.items cli_at dat.now (cli_at - dat_rva input.now.sections)) }
+    ensures late { IfOk result (λ out. FailsLate out.items) }
+    ensures well_formed { IfOk result (λ out. IsWellFormedWith out.items dat.now (cli_at - dat_rva input.now.sections)) }
+{
+    let sections = input.sections();
+    let new = NewSections::behind(sections, dat.len() as u32, cod.len() as u32);
+    let values = HeaderValues::of(bytes, input.wide(), sections, &new, cli_at);
+    join(alloc, &values, sections, &new, bytes, dat, cod)
 }
