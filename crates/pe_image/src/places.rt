@@ -10,7 +10,7 @@ use rtr_bytes::NoMemory;
 /// FileAlignment of a written file, in bytes.
 pub(crate) const FILE_ALIGNMENT: u64 = 512;
 /// The two new sections begin at multiples of this.
-const NEW_SECTION_ALIGNMENT: u64 = 65536;
+pub(crate) const NEW_SECTION_ALIGNMENT: u64 = 65536;
 
 /// The least multiple of a unit that isn't below a place.
 pub(crate) fn aligned(place: u64, unit: u64) -> u64
@@ -24,8 +24,9 @@ pub(crate) fn aligned(place: u64, unit: u64) -> u64
 }
 
 /// The end of the section that ends last in the image, behind the larger of its two sizes.
-fn highest_end(sections: &[PeSection]) -> u64
+pub(crate) fn highest_end(sections: &[PeSection]) -> u64
     ensures value { result ≡ highest_end sections.now }
+    ensures small { result < 2 ^ 33 }
 {
     let mut highest = 0;
     for section in sections {
