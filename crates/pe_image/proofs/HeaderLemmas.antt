@@ -1,14 +1,13 @@
 -- The numbers of the written headers, at their places.
-use Rattle.std.proofs.Common.{◌≡◌, ℕ, ◌+◌, ◌-◌, ◌*◌, ◌^◌, ◌<◌, ◌≤◌, List, [], ◌∷◌, ◌++◌, length, drop, Option, Some, None, refl, sym, ap, subst, ◌∙◌, arith, lit<, append_assoc, length-append}
-use Rattle.std.specs.Prelude.{All, unwrap_or}
+use Rattle.std.proofs.Common.{◌≡◌, ℕ, ◌^◌, ◌<◌, List, ◌++◌, length, Some, refl, lit<}
+use Rattle.std.specs.Prelude.{All}
 use Rattle.std.proofs.lemmas.List.Elements.{All-from_recursion}
-use Rattle.rtr_bytes.specs.Field.{field_at, u16_of, u32_of}
 use Rattle.pe_image.specs.declared.numbers.Number.{Number}
-use Rattle.pe_image.specs.declared.numbers.Number.TheVariants.{One, Two, Four, Eight}
+use Rattle.pe_image.specs.declared.numbers.Number.TheVariants.{Two, Four, Eight}
 use Rattle.pe_image.specs.declared.values.HeaderValues.{HeaderValues}
-use Rattle.pe_image.specs.Pieces.{numbers_bytes, header_numbers, header_bytes, first_numbers, optional_numbers, directory_numbers}
+use Rattle.pe_image.specs.Pieces.{header_numbers, header_bytes, first_numbers, optional_numbers, directory_numbers}
 use Rattle.pe_image.specs.Written.{at, StandsIn, header_fields}
-use Rattle.pe_image.proofs.NumbersInARow.{Fits, AllFit, AllFit-append, width_of, value_of, width, number_at, number_at-stands, length-numbers_bytes}
+use Rattle.pe_image.proofs.NumbersInARow.{AllFit, AllFit-append, width_of, value_of, number_at, number_at-stands, length-numbers_bytes}
 
 pub record AreInRange (v : HeaderValues) : Type 0 where
   pub section_count : v.section_count < 2 ^ 16
@@ -49,54 +48,151 @@ stands v rest h place n e = number_at-stands (header_numbers v) rest place n (he
 
 pub header_stands : (v : HeaderValues) (rest : List ℕ) → AreInRange v → All (StandsIn (header_bytes v ++ rest)) (header_fields v)
 header_stands v rest h =
-    All-from_recursion (StandsIn (header_bytes v ++ rest)) (header_fields v)
-    (stands v rest h 0 (Two 0x5A4D) refl,
-    (stands v rest h 60 (Four 64) refl,
-    (stands v rest h 64 (Four 0x4550) refl,
-    (stands v rest h 68 (Two 0xAA64) refl,
-    (stands v rest h 70 (Two v.section_count) refl,
-    (stands v rest h 84 (Two 240) refl,
-    (stands v rest h 86 (Two 0x2022) refl,
-    (stands v rest h 88 (Two 0x20B) refl,
-    (stands v rest h 92 (Four v.code_size) refl,
-    (stands v rest h 96 (Four v.data_size) refl,
-    (stands v rest h 100 (Four 0) refl,
-    (stands v rest h 104 (Four 0) refl,
-    (stands v rest h 108 (Four v.code_rva) refl,
-    (stands v rest h 112 (Eight 0x1_8000_0000) refl,
-    (stands v rest h 120 (Four v.section_alignment) refl,
-    (stands v rest h 124 (Four 512) refl,
-    (stands v rest h 128 (Two 6) refl,
-    (stands v rest h 130 (Two 2) refl,
-    (stands v rest h 136 (Two 6) refl,
-    (stands v rest h 138 (Two 2) refl,
-    (stands v rest h 144 (Four v.image_size) refl,
-    (stands v rest h 148 (Four v.headers_size) refl,
-    (stands v rest h 152 (Four 0) refl,
-    (stands v rest h 156 (Two 3) refl,
-    (stands v rest h 158 (Two 0x8160) refl,
-    (stands v rest h 160 (Eight 0x10_0000) refl,
-    (stands v rest h 168 (Eight 0x1000) refl,
-    (stands v rest h 176 (Eight 0x10_0000) refl,
-    (stands v rest h 184 (Eight 0x1000) refl,
-    (stands v rest h 192 (Four 0) refl,
-    (stands v rest h 196 (Four 16) refl,
-    (stands v rest h 200 (Eight 0) refl,
-    (stands v rest h 208 (Eight 0) refl,
-    (stands v rest h 216 (Four v.resources.start) refl,
-    (stands v rest h 220 (Four v.resources.len) refl,
-    (stands v rest h 224 (Eight 0) refl,
-    (stands v rest h 232 (Eight 0) refl,
-    (stands v rest h 240 (Eight 0) refl,
-    (stands v rest h 248 (Eight 0) refl,
-    (stands v rest h 256 (Eight 0) refl,
-    (stands v rest h 264 (Eight 0) refl,
-    (stands v rest h 272 (Eight 0) refl,
-    (stands v rest h 280 (Eight 0) refl,
-    (stands v rest h 288 (Eight 0) refl,
-    (stands v rest h 296 (Eight 0) refl,
-    (stands v rest h 304 (Eight 0) refl,
-    (stands v rest h 312 (Four v.cli_at) refl,
-    (stands v rest h 316 (Four 72) refl,
-    (stands v rest h 320 (Eight 0) refl,
-    tt)))))))))))))))))))))))))))))))))))))))))))))))))
+    All-from_recursion (StandsIn (header_bytes v ++ rest)) (header_fields v) (
+      stands v rest h 0 (Two 0x5A4D) refl,
+      (
+        stands v rest h 60 (Four 64) refl,
+        (
+          stands v rest h 64 (Four 0x4550) refl,
+          (
+            stands v rest h 68 (Two 0xAA64) refl,
+            (
+              stands v rest h 70 (Two v.section_count) refl,
+              (
+                stands v rest h 84 (Two 240) refl,
+                (
+                  stands v rest h 86 (Two 0x2022) refl,
+                  (
+                    stands v rest h 88 (Two 0x20B) refl,
+                    (
+                      stands v rest h 92 (Four v.code_size) refl,
+                      (
+                        stands v rest h 96 (Four v.data_size) refl,
+                        (
+                          stands v rest h 100 (Four 0) refl,
+                          (
+                            stands v rest h 104 (Four 0) refl,
+                            (
+                              stands v rest h 108 (Four v.code_rva) refl,
+                              (
+                                stands v rest h 112 (Eight 0x1_8000_0000) refl,
+                                (
+                                  stands v rest h 120 (Four v.section_alignment) refl,
+                                  (
+                                    stands v rest h 124 (Four 512) refl,
+                                    (
+                                      stands v rest h 128 (Two 6) refl,
+                                      (
+                                        stands v rest h 130 (Two 2) refl,
+                                        (
+                                          stands v rest h 136 (Two 6) refl,
+                                          (
+                                            stands v rest h 138 (Two 2) refl,
+                                            (
+                                              stands v rest h 144 (Four v.image_size) refl,
+                                              (
+                                                stands v rest h 148 (Four v.headers_size) refl,
+                                                (
+                                                  stands v rest h 152 (Four 0) refl,
+                                                  (
+                                                    stands v rest h 156 (Two 3) refl,
+                                                    (
+                                                      stands v rest h 158 (Two 0x8160) refl,
+                                                      (
+                                                        stands v rest h 160 (Eight 0x10_0000) refl,
+                                                        (
+                                                          stands v rest h 168 (Eight 0x1000) refl,
+                                                          (
+                                                            stands v rest h 176 (Eight 0x10_0000) refl,
+                                                            (
+                                                              stands v rest h 184 (Eight 0x1000) refl,
+                                                              (
+                                                                stands v rest h 192 (Four 0) refl,
+                                                                (
+                                                                  stands v rest h 196 (Four 16) refl,
+                                                                  (
+                                                                    stands v rest h 200 (Eight 0) refl,
+                                                                    (
+                                                                      stands v rest h 208 (Eight 0) refl,
+                                                                      (
+                                                                        stands v rest h 216 (Four v.resources.start) refl,
+                                                                        (
+                                                                          stands v rest h 220 (Four v.resources.len) refl,
+                                                                          (
+                                                                            stands v rest h 224 (Eight 0) refl,
+                                                                            (
+                                                                              stands v rest h 232 (Eight 0) refl,
+                                                                              (
+                                                                                stands v rest h 240 (Eight 0) refl,
+                                                                                (
+                                                                                  stands v rest h 248 (Eight 0) refl,
+                                                                                  (
+                                                                                    stands v rest h 256 (Eight 0) refl,
+                                                                                    (
+                                                                                      stands v rest h 264 (Eight 0) refl,
+                                                                                      (
+                                                                                        stands v rest h 272 (Eight 0) refl,
+                                                                                        (
+                                                                                          stands v rest h 280 (Eight 0) refl,
+                                                                                          (
+                                                                                            stands v rest h 288 (Eight 0) refl,
+                                                                                            (
+                                                                                              stands v rest h 296 (Eight 0) refl,
+                                                                                              (
+                                                                                                stands v rest h 304 (Eight 0) refl,
+                                                                                                (
+                                                                                                  stands v rest h 312 (Four v.cli_at) refl,
+                                                                                                  (
+                                                                                                    stands v rest h 316 (Four 72) refl,
+                                                                                                    (
+                                                                                                      stands v rest h 320 (Eight 0) refl,
+                                                                                                      tt,
+                                                                                                    ),
+                                                                                                  ),
+                                                                                                ),
+                                                                                              ),
+                                                                                            ),
+                                                                                          ),
+                                                                                        ),
+                                                                                      ),
+                                                                                    ),
+                                                                                  ),
+                                                                                ),
+                                                                              ),
+                                                                            ),
+                                                                          ),
+                                                                        ),
+                                                                      ),
+                                                                    ),
+                                                                  ),
+                                                                ),
+                                                              ),
+                                                            ),
+                                                          ),
+                                                        ),
+                                                      ),
+                                                    ),
+                                                  ),
+                                                ),
+                                              ),
+                                            ),
+                                          ),
+                                        ),
+                                      ),
+                                    ),
+                                  ),
+                                ),
+                              ),
+                            ),
+                          ),
+                        ),
+                      ),
+                    ),
+                  ),
+                ),
+              ),
+            ),
+          ),
+        ),
+      ),
+    )

@@ -1,12 +1,12 @@
 -- What is known of a well-formed input.
-use Rattle.std.proofs.Common.{◌≡◌, ℕ, zero, suc, ◌+◌, ◌-◌, ◌*◌, ◌^◌, ◌<◌, ◌≤◌, leb, eqb, cond, Bool, true, false, ◌||◌, List, [], ◌∷◌, ◌++◌, length, take, drop, get_or, Option, Some, None, refl, sym, ap, subst, ◌∙◌, arith, inl, inr, lit<, length-take, length-drop}
-use Rattle.std.specs.Prelude.{nat_le, if◌then◌else◌, ◌==◌, unwrap_or, All}
+use Rattle.std.proofs.Common.{◌≡◌, ℕ, zero, suc, ◌+◌, ◌*◌, ◌^◌, ◌<◌, ◌≤◌, Bool, true, false, List, [], ◌∷◌, length, drop, get_or, Option, Some, None, refl, arith, inl, inr, lit<, length-take, length-drop}
+use Rattle.std.specs.Prelude.{nat_le, if◌then◌else◌, ◌==◌, unwrap_or}
 use Rattle.std.specs.Option.{option_map}
 use Rattle.std.proofs.lemmas.Bool.{cases_lt, leb-true, eqb-true, or_cases}
 use Rattle.std.proofs.lemmas.List.{get_or-drop, length-take-le}
 use Rattle.byteorder.specs.Endian.{little_number}
 use Rattle.byteorder.specs.Numbers.{little_from-lt}
-use Rattle.rtr_bytes.specs.Field.{field_at, u32_of}
+use Rattle.rtr_bytes.specs.Field.{u32_of}
 use Rattle.rtr_bytes.specs.Checks.{holds_or, first_fault, first_record, records}
 use Rattle.pe_image.specs.declared.section.PeSection.{PeSection}
 use Rattle.pe_image.specs.Sections.{section_at}
@@ -15,7 +15,7 @@ use Rattle.pe_image.specs.Checks.{pe_checks, raw_range_fits}
 use Rattle.pe_image.specs.Pieces.{IsInFile, raw_of}
 use Rattle.pe_image.proofs.TableLemmas.{HeaderFits, HeadersFit}
 use Rattle.pe_image.proofs.RawLemmas.{IsWhole, AllWhole}
-use Rattle.pe_image.proofs.ReadBack.{AllPass, pass}
+use Rattle.pe_image.proofs.ReadBack.{pass}
 
 abbrev pub AreBytes : List ℕ → Type 0
 AreBytes bytes = (i : ℕ) → get_or bytes i 0 < 256

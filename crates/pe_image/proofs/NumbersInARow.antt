@@ -1,13 +1,12 @@
 -- Numbers in a row: each is read at its place.
-use Rattle.std.proofs.Common.{◌≡◌, ℕ, zero, suc, ◌+◌, ◌-◌, ◌^◌, ◌<◌, ◌≤◌, ltb, leb, cond, Bool, true, false, List, [], ◌∷◌, ◌++◌, length, drop, Option, Some, None, refl, sym, ap, subst, ◌∙◌, arith, append_assoc, length-append, length-drop, inl, inr}
-use Rattle.std.specs.Prelude.{nat_le, if◌then◌else◌, ◌==◌, unwrap_or}
-use Rattle.std.specs.List.{flat_map}
+use Rattle.std.proofs.Common.{◌≡◌, ℕ, zero, suc, ◌+◌, ◌-◌, ◌^◌, ◌<◌, ◌≤◌, ltb, cond, Bool, List, [], ◌∷◌, ◌++◌, length, drop, Option, Some, None, refl, sym, ap, subst, ◌∙◌, arith, append_assoc, length-append, length-drop, inl, inr}
+use Rattle.std.specs.Prelude.{if◌then◌else◌, unwrap_or}
 use Rattle.std.proofs.lemmas.Bool.{cases_lt, lt-ltb, le-ltb, le-leb, lt-leb}
 use Rattle.std.proofs.lemmas.List.{drop-drop}
-use Rattle.std.proofs.Math.Seq.{drop-append_seam, drop-append-add}
+use Rattle.std.proofs.Math.Seq.{drop-append_seam}
 use Rattle.byteorder.specs.Endian.{little_bytes, little_number}
 use Rattle.byteorder.specs.Numbers.{little_number-reads_back}
-use Rattle.rtr_bytes.specs.Field.{field_at, u16_of, u32_of}
+use Rattle.rtr_bytes.specs.Field.{field_at, u32_of}
 use Rattle.pe_image.specs.declared.numbers.Number.{Number}
 use Rattle.pe_image.specs.declared.numbers.Number.TheVariants.{One, Two, Four, Eight}
 use Rattle.pe_image.specs.Pieces.{number_bytes, numbers_bytes}
@@ -93,18 +92,18 @@ number_at-stands (m ∷ ns) rest (suc p) n (fit, fits) e =
     elim (cases_lt (suc p) (width_of m)) [
       | inl lt ↦ absurd (let x : None ≡ Some n = sym (ap (λ (b : Bool). cond b None (number_at (suc p - width_of m) ns)) (lt-ltb (suc p) (width_of m) lt)) ∙ e in let y : ⊥ = cc in y)
       | inr le ↦
-        let found : number_at (suc p - width_of m) ns ≡ Some n = sym (ap (λ (b : Bool). cond b None (number_at (suc p - width_of m) ns)) (le-ltb (suc p) (width_of m) le)) ∙ e in
-        let whole = numbers_bytes (m ∷ ns) ++ rest in
-        let split : drop (width_of m) whole ≡ numbers_bytes ns ++ rest =
-        ap (λ (t : List ℕ). drop (width_of m) t) (append_assoc (number_bytes m) (numbers_bytes ns) rest)
-        ∙ ap (λ (t : ℕ). drop t (number_bytes m ++ (numbers_bytes ns ++ rest))) (sym (length-number_bytes m))
-        ∙ drop-append_seam (number_bytes m) (numbers_bytes ns ++ rest) in
-        let long : width_of m ≤ length whole = omega (arith, ap length (append_assoc (number_bytes m) (numbers_bytes ns) rest), length-append (number_bytes m) (numbers_bytes ns ++ rest), length-number_bytes m) in
-        let at : suc p ≡ width_of m + (suc p - width_of m) = omega arith in
-        ap (λ (t : ℕ). field_at (width_of n) whole t) at
-        ∙ field_at-from (width_of n) whole (width_of m) (suc p - width_of m) long
-        ∙ ap (λ (t : List ℕ). field_at (width_of n) t (suc p - width_of m)) split
-        ∙ number_at-stands ns rest (suc p - width_of m) n fits found
+          let found : number_at (suc p - width_of m) ns ≡ Some n = sym (ap (λ (b : Bool). cond b None (number_at (suc p - width_of m) ns)) (le-ltb (suc p) (width_of m) le)) ∙ e in
+          let whole = numbers_bytes (m ∷ ns) ++ rest in
+          let split : drop (width_of m) whole ≡ numbers_bytes ns ++ rest =
+          ap (λ (t : List ℕ). drop (width_of m) t) (append_assoc (number_bytes m) (numbers_bytes ns) rest)
+          ∙ ap (λ (t : ℕ). drop t (number_bytes m ++ (numbers_bytes ns ++ rest))) (sym (length-number_bytes m))
+          ∙ drop-append_seam (number_bytes m) (numbers_bytes ns ++ rest) in
+          let long : width_of m ≤ length whole = omega (arith, ap length (append_assoc (number_bytes m) (numbers_bytes ns) rest), length-append (number_bytes m) (numbers_bytes ns ++ rest), length-number_bytes m) in
+          let at : suc p ≡ width_of m + (suc p - width_of m) = omega arith in
+          ap (λ (t : ℕ). field_at (width_of n) whole t) at
+          ∙ field_at-from (width_of n) whole (width_of m) (suc p - width_of m) long
+          ∙ ap (λ (t : List ℕ). field_at (width_of n) t (suc p - width_of m)) split
+          ∙ number_at-stands ns rest (suc p - width_of m) n fits found
     ]
 
 -- the same where the row stands at a place of some bytes

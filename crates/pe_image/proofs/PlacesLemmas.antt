@@ -1,10 +1,10 @@
 -- Multiples of a unit, and places that count on.
-use Rattle.std.proofs.Common.{◌≡◌, ℕ, ◌+◌, ◌-◌, ◌*◌, ◌%◌, ◌^◌, ◌<◌, ◌≤◌, Bool, List, [], ◌∷◌, ◌++◌, length, drop, get_or, refl, sym, ap, ◌∙◌, arith}
-use Rattle.std.specs.Prelude.{sum_by, max}
+use Rattle.std.proofs.Common.{◌≡◌, ℕ, ◌+◌, ◌*◌, ◌%◌, ◌<◌, ◌≤◌, List, [], ◌∷◌, ◌++◌, length, drop, get_or, refl, ap, arith}
+use Rattle.std.specs.Prelude.{sum_by}
 use Rattle.std.proofs.lemmas.List.{at_drop_more}
 use Rattle.std.proofs.lemmas.List.Sums.{sum_by-cons}
 use Rattle.pe_image.specs.declared.section.PeSection.{PeSection}
-use Rattle.pe_image.specs.Places.{aligned, section_end, highest_end, dat_rva, cod_rva, placed_from, end_from, AreLaid}
+use Rattle.pe_image.specs.Places.{aligned, placed_from, end_from, AreLaid}
 
 pub record IsAligned (place up : ℕ) : Type 0 where
   pub low : place ≤ up

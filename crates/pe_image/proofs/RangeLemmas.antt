@@ -1,9 +1,9 @@
 -- The ranges of RVAs of a written file.
-use Rattle.std.proofs.Common.{◌≡◌, ℕ, ◌+◌, ◌-◌, ◌*◌, ◌^◌, ◌<◌, ◌≤◌, leb, cond, Bool, true, false, List, [], ◌∷◌, ◌++◌, length, take, drop, map, Option, Some, None, refl, sym, ap, subst, ◌∙◌, arith, inl, inr}
-use Rattle.std.specs.Prelude.{nat_le, if◌then◌else◌, find, is_some, IsSome, max}
+use Rattle.std.proofs.Common.{◌≡◌, ℕ, ◌+◌, ◌-◌, ◌^◌, ◌<◌, ◌≤◌, leb, cond, Bool, true, false, List, [], ◌∷◌, ◌++◌, length, take, drop, map, Option, Some, None, refl, sym, ap, subst, ◌∙◌, arith}
+use Rattle.std.specs.Prelude.{nat_le, if◌then◌else◌, find, is_some, IsSome}
 use Rattle.std.specs.List.{AllZip}
 use Rattle.std.specs.Option.{option_map}
-use Rattle.std.proofs.lemmas.Bool.{cases_Bool, le-leb, lt-leb, and_right}
+use Rattle.std.proofs.lemmas.Bool.{lt-leb, and_right}
 use Rattle.std.proofs.lemmas.List.{length-map}
 use Rattle.rtr_bytes.specs.declared.fault.Fault.{Fault}
 use Rattle.rtr_bytes.specs.Field.{u32_of}
@@ -13,12 +13,12 @@ use Rattle.pe_image.specs.Sections.{has_range, slice_of_rva}
 use Rattle.pe_image.specs.Headers.{sections_of, place_of, cli_at, metadata_place, metadata_size}
 use Rattle.pe_image.specs.Checks.{pe_checks}
 use Rattle.pe_image.specs.Places.{aligned, highest_end, dat_rva, cod_rva, headers_end, dat_section, cod_section, all_sections, placed_from, end_from, raw_start}
-use Rattle.pe_image.specs.Written.{IsWritable, KeepsRanges, FindsPart}
+use Rattle.pe_image.specs.Written.{KeepsRanges, FindsPart}
 use Rattle.pe_image.specs.Pieces.{raw_of, raw_parts}
 use Rattle.pe_image.proofs.PlacesLemmas.{aligned-512, aligned-65536, padded_before, placed_from-append, length-placed_from}
 use Rattle.pe_image.proofs.RawLemmas.{Holds, AllZip-left, AllZip-right, kept_in, find_behind, part_found}
-use Rattle.pe_image.proofs.ReadBack.{HasHeaders, cli_at-is, early_pass, late_checks, late, none_late, same_field}
-use Rattle.pe_image.proofs.FileLemmas.{Parts, the_file, file_holds, file_length, file_has, file_sections, file_laid}
+use Rattle.pe_image.proofs.ReadBack.{cli_at-is, early_pass, late_checks, late, none_late, same_field}
+use Rattle.pe_image.proofs.FileLemmas.{Parts, the_file, file_holds, file_has, file_sections, file_laid}
 
 -- ---- a range of the input
 

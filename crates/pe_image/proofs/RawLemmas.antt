@@ -1,10 +1,10 @@
 -- The raw bytes, found in the written file by their RVAs.
-use Rattle.std.proofs.Common.{◌≡◌, ℕ, zero, suc, ◌+◌, ◌-◌, ◌*◌, ◌^◌, ◌<◌, ◌≤◌, leb, cond, Bool, true, false, ◌&&◌, List, [], ◌∷◌, ◌++◌, length, take, drop, map, Option, Some, None, refl, sym, ap, subst, ◌∙◌, arith, append_assoc, length-append, length-drop, length-take, inl, inr}
-use Rattle.std.specs.Prelude.{nat_le, if◌then◌else◌, find, replicate, max, is_some}
+use Rattle.std.proofs.Common.{◌≡◌, ℕ, ◌+◌, ◌-◌, ◌^◌, ◌<◌, ◌≤◌, leb, cond, Bool, true, false, List, [], ◌∷◌, ◌++◌, length, take, drop, map, Some, None, refl, sym, ap, subst, ◌∙◌, arith, append_assoc, length-append, length-drop, inl, inr}
+use Rattle.std.specs.Prelude.{find, replicate}
 use Rattle.std.specs.List.{flat_map, AllZip}
 use Rattle.std.specs.Option.{option_map}
-use Rattle.std.proofs.lemmas.Bool.{cases_lt, cases_Bool, le-leb, lt-leb, leb-true, and_parts, and_from, and_left, and_right}
-use Rattle.std.proofs.lemmas.List.{drop-drop, take_at, drop_at, take-append-le, drop-append-le, take-take, drop-take, length-replicate, length-map, length-take-le}
+use Rattle.std.proofs.lemmas.Bool.{cases_Bool, le-leb, lt-leb, leb-true, and_parts, and_from, and_right}
+use Rattle.std.proofs.lemmas.List.{drop-drop, take-append-le, drop-append-le, take-take, drop-take, length-replicate}
 use Rattle.std.proofs.Math.Seq.{drop-append_seam}
 use Rattle.pe_image.specs.declared.section.PeSection.{PeSection}
 use Rattle.pe_image.specs.Sections.{has_range, slice_of_rva}
@@ -140,11 +140,11 @@ kept_in [] more at rva len place old new holds whole e = absurd (let x : ⊥ = c
 kept_in (s ∷ ss) more at rva len place old new (h, hs) (w, ws) e =
     elim (cases_Bool (has_range rva len s)) [
       | inl hit ↦
-        let here : Some (place_in rva s) ≡ Some place = sym (ap (λ (b : Bool). option_map (place_in rva) (cond b (Some s) (find (has_range rva len) ss))) hit) ∙ e in
-        kept_here rva len place at s (placed_from (at + aligned 512 s.raw_size) (ss ++ more)) old new hit (some_is (place_in rva s) place here) h w
+          let here : Some (place_in rva s) ≡ Some place = sym (ap (λ (b : Bool). option_map (place_in rva) (cond b (Some s) (find (has_range rva len) ss))) hit) ∙ e in
+          kept_here rva len place at s (placed_from (at + aligned 512 s.raw_size) (ss ++ more)) old new hit (some_is (place_in rva s) place here) h w
       | inr miss ↦
-        let later : option_map (place_in rva) (find (has_range rva len) ss) ≡ Some place = sym (ap (λ (b : Bool). option_map (place_in rva) (cond b (Some s) (find (has_range rva len) ss))) miss) ∙ e in
-        kept_after rva len place at s (placed_from (at + aligned 512 s.raw_size) (ss ++ more)) old new miss (kept_in ss more (at + aligned 512 s.raw_size) rva len place old new hs ws later)
+          let later : option_map (place_in rva) (find (has_range rva len) ss) ≡ Some place = sym (ap (λ (b : Bool). option_map (place_in rva) (cond b (Some s) (find (has_range rva len) ss))) miss) ∙ e in
+          kept_after rva len place at s (placed_from (at + aligned 512 s.raw_size) (ss ++ more)) old new miss (kept_in ss more (at + aligned 512 s.raw_size) rva len place old new hs ws later)
     ]
 
 -- a range behind the ends of all sections is in none of them

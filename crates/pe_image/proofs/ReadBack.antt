@@ -1,17 +1,17 @@
 -- The written file, read back: its headers pass the checks up to the CLI header's.
-use Rattle.std.proofs.Common.{◌≡◌, ℕ, zero, suc, ◌+◌, ◌-◌, ◌*◌, ◌^◌, ◌<◌, ◌≤◌, leb, cond, Bool, true, false, ◌&&◌, ◌||◌, List, [], ◌∷◌, ◌++◌, length, take, drop, Option, Some, None, refl, sym, ap, subst, ◌∙◌, arith, append_assoc, length-append, length-drop, length-take}
-use Rattle.std.specs.Prelude.{nat_le, if◌then◌else◌, ◌==◌, unwrap_or, is_some, IsSome}
+use Rattle.std.proofs.Common.{◌≡◌, ℕ, zero, suc, ◌+◌, ◌-◌, ◌*◌, ◌≤◌, Bool, true, ◌&&◌, ◌||◌, List, [], ◌∷◌, ◌++◌, length, take, drop, Option, Some, None, refl, sym, ap, ◌∙◌, arith, length-drop, length-take}
+use Rattle.std.specs.Prelude.{nat_le, if◌then◌else◌, ◌==◌, unwrap_or, is_some}
 use Rattle.std.specs.Option.{option_map}
 use Rattle.std.proofs.lemmas.Bool.{le-leb, and_from, or_right}
 use Rattle.std.proofs.lemmas.List.{drop-drop, take-append-drop, drop-append-le, length-take-le}
 use Rattle.byteorder.specs.Endian.{little_number}
 use Rattle.byteorder.specs.Numbers.{little_from-append}
 use Rattle.rtr_bytes.specs.declared.fault.Fault.{Fault}
-use Rattle.rtr_bytes.specs.Field.{field_at, u16_of, u32_of}
+use Rattle.rtr_bytes.specs.Field.{u16_of, u32_of}
 use Rattle.rtr_bytes.specs.Checks.{Check, check, holds_or, fault_or, first_fault, first_record, records}
 use Rattle.pe_image.specs.declared.section.PeSection.{PeSection}
-use Rattle.pe_image.specs.Sections.{section_at, slice_of_rva}
-use Rattle.pe_image.specs.Headers.{pe_at, section_count, optional_size, optional_at, magic_of, is_wide, directories_offset, directory_count_at, cli_directory_at, section_table_at, sections_of, place_of, cli_at, metadata_size, metadata_place}
+use Rattle.pe_image.specs.Sections.{section_at}
+use Rattle.pe_image.specs.Headers.{pe_at, section_count, optional_size, optional_at, magic_of, is_wide, directories_offset, directory_count_at, cli_directory_at, section_table_at, sections_of, place_of, cli_at, metadata_place}
 use Rattle.pe_image.specs.Checks.{coff_checks, optional_checks, section_checks, cli_checks, pe_checks, raw_range_fits}
 use Rattle.pe_image.specs.Places.{AreLaid}
 use Rattle.pe_image.proofs.NumbersInARow.{field_at-is}
@@ -97,12 +97,19 @@ coff_pass out count cli h =
     let c2 : (u16_of out 0 == 0x5A4D) ≡ true = ap (λ (t : ℕ). t == 0x5A4D) h.dos in
     let c3 : nat_le (pe_at out + 24) (length out) ≡ true = le-leb (pe_at out + 24) (length out) (omega (arith, h.pe)) in
     let c4 : (u32_of out (pe_at out) == 0x4550) ≡ true = ap (λ (t : ℕ). u32_of out t == 0x4550) h.pe ∙ ap (λ (t : ℕ). t == 0x4550) h.signature in
-    let c6 : nat_le (section_table_at out) (length out) ≡ true = le-leb (section_table_at out) (length out) (omega (arith, w.3)) in
-    (holds (nat_le 64 (length out)) (length out) c1,
-    (holds (u16_of out 0 == 0x5A4D) 0 c2,
-    (holds (nat_le (pe_at out + 24) (length out)) 60 c3,
-    (holds (u32_of out (pe_at out) == 0x4550) (pe_at out) c4,
-    (holds (nat_le (section_table_at out) (length out)) (pe_at out + 20) c6, tt)))))
+    let c6 : nat_le (section_table_at out) (length out) ≡ true = le-leb (section_table_at out) (length out) (omega (arith, w.3)) in (
+      holds (nat_le 64 (length out)) (length out) c1,
+      (
+        holds (u16_of out 0 == 0x5A4D) 0 c2,
+        (
+          holds (nat_le (pe_at out + 24) (length out)) 60 c3,
+          (
+            holds (u32_of out (pe_at out) == 0x4550) (pe_at out) c4,
+            (holds (nat_le (section_table_at out) (length out)) (pe_at out + 20) c6, tt),
+          ),
+        ),
+      ),
+    )
 
 optional_pass : (out : List ℕ) (count cli : ℕ) → HasHeaders out count cli → AllPass optional_checks out
 optional_pass out count cli h =
@@ -115,11 +122,16 @@ optional_pass out count cli h =
     let dirs : directory_count_at out ≡ 196 = ap (λ (t : ℕ). t + directories_offset out - 4) w.0 ∙ ap (λ (t : ℕ). 88 + t - 4) w.2 in
     let sixteen : u32_of out (directory_count_at out) ≡ 16 = ap (λ (t : ℕ). u32_of out t) dirs ∙ h.directories in
     let c9 : nat_le 15 (u32_of out (directory_count_at out)) ≡ true = le-leb 15 (u32_of out (directory_count_at out)) (omega (arith, sixteen)) in
-    let c10 : nat_le (section_table_at out + 40 * section_count out) (length out) ≡ true = le-leb (section_table_at out + 40 * section_count out) (length out) (omega (arith, w.3, w.4)) in
-    (holds (nat_le 2 (optional_size out) && (magic_of out == 0x10B || magic_of out == 0x20B)) (optional_at out) c7,
-    (holds (nat_le (directories_offset out + 120) (optional_size out)) (pe_at out + 20) c8,
-    (holds (nat_le 15 (u32_of out (directory_count_at out))) (directory_count_at out) c9,
-    (holds (nat_le (section_table_at out + 40 * section_count out) (length out)) (pe_at out + 6) c10, tt))))
+    let c10 : nat_le (section_table_at out + 40 * section_count out) (length out) ≡ true = le-leb (section_table_at out + 40 * section_count out) (length out) (omega (arith, w.3, w.4)) in (
+      holds (nat_le 2 (optional_size out) && (magic_of out == 0x10B || magic_of out == 0x20B)) (optional_at out) c7,
+      (
+        holds (nat_le (directories_offset out + 120) (optional_size out)) (pe_at out + 20) c8,
+        (
+          holds (nat_le 15 (u32_of out (directory_count_at out))) (directory_count_at out) c9,
+          (holds (nat_le (section_table_at out + 40 * section_count out) (length out)) (pe_at out + 6) c10, tt),
+        ),
+      ),
+    )
 
 section_pass : (out : List ℕ) (count cli from : ℕ) → HasHeaders out count cli → AreLaid from (sections_of out) (length out) → AllPass section_checks out
 section_pass out count cli from h laid =

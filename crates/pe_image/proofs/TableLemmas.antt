@@ -1,16 +1,14 @@
 -- The section table, read from the bytes that were written.
-use Rattle.std.proofs.Common.{◌≡◌, ℕ, zero, suc, ◌+◌, ◌-◌, ◌*◌, ◌^◌, ◌<◌, ◌≤◌, List, [], ◌∷◌, ◌++◌, length, take, drop, refl, sym, ap, subst, ◌∙◌, arith, lit<, append_assoc, length-append, length-drop}
+use Rattle.std.proofs.Common.{◌≡◌, ℕ, ◌+◌, ◌*◌, ◌^◌, ◌<◌, ◌≤◌, List, [], ◌∷◌, ◌++◌, length, take, drop, refl, sym, ap, ◌∙◌, arith, lit<, append_assoc, length-append}
 use Rattle.std.specs.List.{flat_map}
 use Rattle.std.proofs.lemmas.List.{drop-drop, take_at, drop_at}
 use Rattle.rtr_bytes.specs.Field.{u32_of}
 use Rattle.rtr_bytes.specs.Checks.{records}
 use Rattle.pe_image.specs.declared.section.PeSection.{PeSection}
-use Rattle.pe_image.specs.declared.numbers.Number.{Number}
-use Rattle.pe_image.specs.declared.numbers.Number.TheVariants.{One, Two, Four, Eight}
 use Rattle.pe_image.specs.Sections.{section_at}
 use Rattle.pe_image.specs.Places.{aligned, placed_from, end_from}
 use Rattle.pe_image.specs.Pieces.{numbers_bytes, section_numbers, section_bytes}
-use Rattle.pe_image.proofs.NumbersInARow.{AllFit, width, number_at, u32_from, length-numbers_bytes}
+use Rattle.pe_image.proofs.NumbersInARow.{AllFit, u32_from, length-numbers_bytes}
 use Rattle.pe_image.proofs.PlacesLemmas.{end_from-grows}
 
 -- each field of a section header fits its bytes

@@ -6,7 +6,7 @@ use Rattle.pe_image.specs.declared.section.PeSection.{PeSection}
 use Rattle.pe_image.specs.declared.numbers.Number.{Number}
 use Rattle.pe_image.specs.declared.numbers.Number.TheVariants.{One, Two, Four, Eight}
 use Rattle.pe_image.specs.declared.values.HeaderValues.{HeaderValues}
-use Rattle.pe_image.specs.Places.{aligned, placed_from}
+use Rattle.pe_image.specs.Places.{aligned}
 
 -- a number in one, two, four or eight bytes, lowest byte first
 abbrev pub number_bytes : Number → List ℕ

@@ -1,6 +1,6 @@
 -- A written PE file: when one can be written, the numbers of its headers by their places (PE/COFF 2 to 3.4), and the
 -- bytes that its RVAs keep.
-use Rattle.std.specs.Prelude.{◌≡◌, ℕ, ◌+◌, ◌-◌, ◌*◌, ◌^◌, ◌<◌, ◌≤◌, ◌==◌, ◌||◌, List, [], ◌∷◌, length, take, drop, All, sum_by, nat_le, Option, Some, IsSome, None, if◌then◌else◌}
+use Rattle.std.specs.Prelude.{◌≡◌, ℕ, ◌+◌, ◌^◌, ◌<◌, ◌≤◌, ◌==◌, ◌||◌, List, [], ◌∷◌, length, take, drop, All, nat_le, Some, IsSome, None, if◌then◌else◌}
 use Rattle.rtr_bytes.specs.declared.fault.Span.{Span}
 use Rattle.rtr_bytes.specs.declared.fault.Fault.{Fault}
 use Rattle.rtr_bytes.specs.Checks.{first_fault}

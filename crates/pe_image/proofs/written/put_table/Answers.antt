@@ -1,4 +1,4 @@
-use Rattle.std.proofs.Common.{◌≡◌, ◌+◌, ◌≤◌, ◌<◌, ℕ, [], arith, length}
+use Rattle.std.proofs.Common.{◌<◌, [], arith, length}
 use Rattle.pe_image.specs.declared.section.PeSection.{PeSection}
 use Rattle.pe_image.specs.Places.{end_from}
 use Rattle.pe_image.proofs.PlacesLemmas.{next_within}

@@ -1,12 +1,8 @@
-use Rattle.std.proofs.Common.{◌≡◌, ◌∙◌, ◌+◌, ◌++◌, ◌∷◌, [], ◌-◌, ◌≤◌, ℕ, List, None, length, refl, sym, ap, subst, arith}
-use Rattle.std.specs.Prelude.{All}
-use Rattle.std.specs.Vec.{vec_len}
+use Rattle.std.proofs.Common.{◌≡◌, ◌++◌, ◌∷◌, [], ℕ, List, None, length, sym, ap, subst, arith}
 use Rattle.rtr_bytes.specs.Checks.{first_fault}
-use Rattle.pe_image.specs.declared.section.PeSection.{PeSection}
 use Rattle.pe_image.specs.Checks.{pe_checks}
-use Rattle.pe_image.specs.Headers.{Headers, headers_of, sections_of}
-use Rattle.pe_image.specs.Places.{dat_rva, cod_rva, placed_from, raw_start, written_sections, written_length, length_bound, headers_end, AreLaid}
-use Rattle.pe_image.specs.Written.{header_values, header_fields, StandsIn, KeepsRanges, FindsPart, HasCliHeader, FailsLate, IsWellFormedWith}
+use Rattle.pe_image.specs.Headers.{Headers, headers_of}
+use Rattle.pe_image.specs.Places.{placed_from, raw_start}
 use Rattle.pe_image.specs.Pieces.{raw_parts, file_of}
 use Rattle.pe_image.proofs.InputLemmas.{AreBytes, IsInput, is_input}
 use Rattle.pe_image.proofs.Promises.{IsWritten, written, joined_file, raw_in_file, headers_size-is, cod_end, room_in_file, ok_then}

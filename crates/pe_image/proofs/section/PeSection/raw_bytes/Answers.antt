@@ -1,4 +1,4 @@
-use Rattle.std.proofs.Common.{◌≡◌, ◌+◌, ◌-◌, ℕ, List, take, drop, refl, ap, sym, arith}
+use Rattle.std.proofs.Common.{◌≡◌, ◌+◌, ◌-◌, ℕ, take, drop, ap, sym, arith}
 use Rattle.pe_image.specs.Pieces.{raw_of}
 use Rattle.pe_image.proofs.section.PeSection.raw_bytes.Goals as goal
 
