@@ -2,3 +2,6 @@ pub mod Sections
 pub mod Headers
 pub mod Checks
 pub mod Reach
+pub mod Places
+pub mod Written
+pub mod Pieces

@@ -3,11 +3,18 @@
 
 mod cli;
 mod layout;
+mod numbers;
 mod pe;
+mod places;
+mod room;
 mod section;
+mod values;
+mod written;
 
 pub use pe::Pe;
+pub use room::{can_write_pe, cod_rva, dat_rva};
 pub use section::PeSection;
+pub use written::write_pe;
 
 #[cfg(test)]
 mod tests;

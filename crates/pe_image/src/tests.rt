@@ -104,3 +104,72 @@ fn refuses_a_cut_file(rt: HostRuntime) -> Result<(), Fail> {
     }
     Ok(())
 }
+
+/// The CLI header of the written file at 8, for metadata at RVA 0x1048.
+fn dat(alloc: Global) -> Result<Vec<u8>, AllocError> {
+    let mut bytes = Vec::new(alloc);
+    bytes.resize(8, 0xEE)?;
+    bytes.extend_from_slice(b"\x48\0\0\0\x02\0\x05\0\x48\x10\0\0\x14\0\0\0\x04\0\0\0")?;
+    bytes.resize(80, 0)?;
+    Ok(bytes)
+}
+
+#[test]
+fn writes_a_file_that_reads_back(rt: HostRuntime) -> Result<(), Fail> {
+    let mut bytes = narrow(rt.alloc())?;
+    assert_eq!(rt; bytes.len(), 1792);
+    // The second section has no raw bytes, and its raw place is behind the file's end.
+    bytes[369] = 0;
+    bytes[374] = 1;
+    let Ok(pe) = Pe::read(rt.alloc(), &bytes) else {
+        return Err("the file is well formed")?;
+    };
+    let dat = dat(rt.alloc())?;
+    let cod = [0xC0, 0x03, 0x5F, 0xD6];
+    assert_eq!(rt; dat_rva(&pe), 0x10000);
+    assert_eq!(rt; cod_rva(&pe, 80), 0x20000);
+    assert!(rt; !can_write_pe(&pe, &dat, &cod, 0x10009));
+    assert!(rt; can_write_pe(&pe, &dat, &cod, 0x10008));
+    let Ok(out) = write_pe(rt.alloc(), &pe, &bytes, &dat, &cod, 0x10008) else {
+        return Err("memory is ample")?;
+    };
+    assert_eq!(rt; out.len(), 2048);
+    assert_eq!(rt; out.get(512..1024), bytes.get(512..1024));
+    assert!(rt; out.get(1024..1104) == Some(dat.as_slice()));
+    assert!(rt; out.get(1536..1540) == Some(cod.as_slice()));
+    let Ok(back) = Pe::read(rt.alloc(), &out) else {
+        return Err("the written file is well formed")?;
+    };
+    assert_eq!(rt; back.machine(), 0xAA64);
+    assert!(rt; back.wide());
+    assert_eq!(rt;
+        back.cli(),
+        Span {
+            start: 1032,
+            len: 72
+        }
+    );
+    assert_eq!(rt;
+        back.metadata(),
+        Span {
+            start: 584,
+            len: 20
+        }
+    );
+    assert_eq!(rt; back.cli_flags(), 4);
+    assert_eq!(rt; back.slice_of_rva(0x1100, 0x100), Some(768));
+    assert_eq!(rt; back.slice_of_rva(0x1100, 0x101), None);
+    assert_eq!(rt; back.slice_of_rva(0x20000, 4), Some(1536));
+    let sections = back.sections();
+    assert_eq!(rt; sections.len(), 4);
+    let cod_section = PeSection {
+        name: *b".r2rcod\0",
+        virtual_size: 4,
+        rva: 0x20000,
+        raw_size: 512,
+        raw_at: 1536,
+        flags: 0x6000_0020,
+    };
+    assert!(rt; sections.get(3) == Some(&cod_section));
+    Ok(())
+}

@@ -1,0 +1,12 @@
+mod NumbersInARow
+mod PlacesLemmas
+mod HeaderLemmas
+mod TableLemmas
+mod RawLemmas
+mod ReadBack
+mod ValuesLemmas
+mod WrittenLemmas
+mod InputLemmas
+mod FileLemmas
+mod RangeLemmas
+mod Promises
