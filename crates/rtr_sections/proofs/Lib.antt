@@ -1,0 +1,6 @@
+pub mod Placed
+pub mod NativeLemmas
+pub mod Numbered
+pub mod CodeEnds
+pub mod SlotsRead
+pub mod FixupLaws
