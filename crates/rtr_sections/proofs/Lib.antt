@@ -4,3 +4,4 @@ pub mod Numbered
 pub mod CodeEnds
 pub mod SlotsRead
 pub mod FixupLaws
+pub mod EntriesRead

@@ -7,7 +7,7 @@ ghost use Rattle.native_format.specs.Sparse.{array_at, element_of};
 ghost use Rattle.native_format.specs.Uint.{uint_at};
 ghost use Rattle.rtr_sections.specs.Numbered.{first_bad, present};
 ghost use Rattle.rtr_sections.specs.Imports.{import_count};
-ghost use Rattle.rtr_sections.specs.Entries.{array_in, bad_array, bytes_in, cut_place, entries_in, entry_at, entry_of, first_cut, first_unlinked, fixups_of_id, function_of_id, is_linked, list_place, names_slot, unlinked_at, unlinked_place};
+ghost use Rattle.rtr_sections.specs.Entries.{array_in, bad_array, bytes_in, content_of, cut_place, entries_in, entry_at, entry_of, first_cut, first_unlinked, fixups_of_id, function_of_id, is_linked, list_place, names_slot, unlinked_at, unlinked_place};
 
 use crate::header::tail_at;
 use crate::imports::RECORD_SIZE;
@@ -199,6 +199,18 @@ fn check_paths(array: &SparseArray<'_>, part: Span) -> Result<(), Fault>
     Ok(())
 }
 
+/// The place of an index's content.
+fn content_at(array: &SparseArray<'_>, index: u32) -> Option<u32>
+    requires whole { array_at array.now.bytes 0 ≡ Some array.now }
+    ensures place { result ≡ content_of (element_of array.now index) }
+    ensures within { IfSome result (λ at. at ≤ length array.now.bytes) }
+{
+    match array.get(index) {
+        Ok(place) => place,
+        Err(_) => None,
+    }
+}
+
 /// The entries of an array, once each is whole and what it names exists.
 fn read_all(
     alloc: Global,
@@ -218,7 +230,7 @@ fn read_all(
 {
     let mut entries = Vec::new(alloc);
     for index in 0..array.count() {
-        if let Ok(Some(at)) = array.get(index) {
+        if let Some(at) = content_at(array, index) {
             let entry = EntryPoint::checked(alloc, bytes, part, named, index + 1, at)?;
             entries.push(entry)?;
         }
