@@ -117,3 +117,19 @@ some_within n (Some place) h = h
 
 pub answer_within : (a : Array) (index : ℕ) (o : Option ℕ) → IsWhole a → element_of a index ≡ Ok o → IfSome o (λ place. place ≤ length a.bytes)
 answer_within a index o whole e = let P : Answer → Type 0 = λ s. IsWithin (length a.bytes) s in some_within (length a.bytes) o (subst P e (element_of_within a index whole))
+
+-- the array that was found is in those bytes
+array_of-bytes : (bytes : List ℕ) (read : Option (ℕ × ℕ)) (a : Array) → option_and_then (array_of bytes) read ≡ Some a → a.bytes ≡ bytes
+array_of-bytes bytes None a e = absurd (let x : ⊥ = cc in x)
+array_of-bytes bytes (Some (header, index_at)) a e =
+    let Q : Array → Type 0 = λ x. x.bytes ≡ bytes in
+    let it : Array = record { bytes = bytes; index_at = index_at; count = header / 4; entry_size = 2 ^ (header % 4) } in
+    if_some Q (header % 4 == 3) None _ a e
+    (λ _ s. absurd (let x : ⊥ = cc in x))
+    (λ _ s. if_some Q (nat_le (index_at + 2 ^ (header % 4) * blocks_of (header / 4)) (length bytes)) (Some it) None a s
+    (λ _ u. let same : it ≡ a = cc in subst Q same refl)
+    (λ _ u. absurd (let x : ⊥ = cc in x)))
+
+pub array_at-bytes : (bytes : List ℕ) (at : ℕ) (a : Array) → array_at bytes at ≡ Some a → a.bytes ≡ bytes
+unfolding array_at
+array_at-bytes bytes at a e = array_of-bytes bytes (uint_at bytes at) a e

@@ -258,6 +258,7 @@ fn read_array(bytes: &[u8], part: Span, rows: u32) -> Result<SparseArray<'_>, Fa
 
 /// The entries of a part, for an assembly of so many MethodDef rows: once its array is there, none of the array's
 /// paths is cut, and each entry is whole and names what exists.
+#[tactic(auto, unfolding(crate::specs::Entries::bad_array, crate::specs::Entries::first_cut, crate::specs::Entries::first_unlinked, crate::specs::Entries::entries_in))]
 pub(crate) fn read_entries(
     alloc: Global,
     bytes: &[u8],
