@@ -5,3 +5,4 @@ pub mod CodeEnds
 pub mod SlotsRead
 pub mod FixupLaws
 pub mod EntriesRead
+pub mod AllChecks

@@ -53,6 +53,7 @@ impl Image {
 }
 
 /// What stands in an image of this compiler behind its header and its import records.
+#[tactic(auto, unfolding(crate::specs::Image::own_image_of))]
 fn read_own(
     alloc: Global,
     pe: &Pe,
@@ -70,6 +71,7 @@ fn read_own(
     ensures malformed { IfErr result (λ e. RefusedBy (first_fault (own_checks method_rows) bytes.now) e) }
     ensures well_formed { OnOk result (first_fault (own_checks method_rows) bytes.now ≡ None) }
     ensures image { IfOk result (λ image. image ≡ own_image_of bytes.now) }
+    ensures own { IfOk result (λ image. image.own ≡ is_own bytes.now) }
 {
     let import_part = header.part(pe, bytes, IMPORT_SECTIONS);
     let function_part = header.part(pe, bytes, RUNTIME_FUNCTIONS);
@@ -96,6 +98,7 @@ fn read_own(
 /// The ReadyToRun part of a file with a native header, whose PE headers are `pe` and whose assembly has so many
 /// MethodDef rows. `Malformed` names the first of the checks 16 to 22 and, of an image that this compiler wrote,
 /// 60 to 66 that fails, with its first place. It goes over the file once, and over each entry's own list.
+#[tactic(auto, unfolding(crate::specs::Image::rtr_checks, crate::specs::Image::image_of, crate::specs::Image::foreign_image_of))]
 pub fn read_rtr(
     alloc: Global,
     pe: &Pe,
