@@ -17,3 +17,6 @@ pub use header::{RtrHeader, RtrSection};
 pub use image::{Image, read_rtr};
 pub use imports::ImportSection;
 pub use slots::Slot;
+
+#[cfg(test)]
+mod tests;
