@@ -5,3 +5,4 @@ pub mod SparseLaws
 pub mod TreeLaws
 pub mod SparseWritten
 pub mod WriterParts
+pub mod SparseWithin

@@ -1,0 +1,32 @@
+use Rattle.std.proofs.Common.{◌≡◌, ◌+◌, ◌*◌, ◌<◌, ◌∙◌, refl, Some, None, true, false, sym, arith, ℕ}
+use Rattle.std.proofs.lemmas.Bool.Decides.{nat_tests}
+use Rattle.rtr_bytes.specs.Checks.{first_record}
+use Rattle.rtr_bytes.proofs.Tables.{first_record-step, first_record-found, first_record-end}
+use Rattle.rtr_sections.specs.Imports.{has_own_form, import_count, foreign_import}
+use Rattle.rtr_sections.proofs.imports.check_forms.Goals as goal
+
+pub returns-then-not-has_own_form-clause-fault : goal.returns-then-not-has_own_form-clause-fault
+unfolding foreign_import
+returns-then-not-has_own_form-clause-fault c =
+    let bytes = c.args.bytes.now in
+    let start = c.args.part.start in
+    let i = c.loop-i.i in
+    let below : i < import_count c.args.part = omega arith in
+    let fails : has_own_form bytes (start + 20 * i) ≡ false = grind (arith, nat_tests) in
+    let first : first_record (has_own_form bytes) start 20 (import_count c.args.part) ≡ Some (start + 20 * i) =
+    sym c.loop-i.invariant ∙ first_record-found (has_own_form bytes) start 20 (import_count c.args.part) i below fails in
+    rw first refl
+
+pub loop-i-preserved : goal.loop-i-preserved
+loop-i-preserved c =
+    let bytes = c.args.bytes.now in
+    let start = c.args.part.start in
+    let i = c.loop-i.i in
+    let below : i < import_count c.args.part = omega arith in
+    let holds : has_own_form bytes (start + 20 * i) ≡ true = grind (arith, nat_tests) in
+    sym (first_record-step (has_own_form bytes) start 20 (import_count c.args.part) i below holds) ∙ c.loop-i.invariant
+
+pub returns-clause-ok : goal.returns-clause-ok
+unfolding foreign_import
+returns-clause-ok c =
+    sym c.loop-i.invariant ∙ first_record-end (has_own_form c.args.bytes.now) (c.args.part.start + 20 * c.loop-i.i) 20 (import_count c.args.part) c.loop-i.i (omega arith)
