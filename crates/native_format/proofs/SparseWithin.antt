@@ -1,5 +1,5 @@
 -- The places that a sparse array's look-up answers are within the array's bytes.
-use Rattle.std.proofs.Common.{◌≡◌, ℕ, ◌+◌, ◌*◌, ◌/◌, ◌%◌, ◌^◌, ◌==◌, ◌&&◌, ◌<◌, ◌≤◌, Bool, true, false, cond, List, [], ◌∷◌, length, Option, Some, None, Result, Ok, Err, refl, sym, subst, arith}
+use Rattle.std.proofs.Common.{◌≡◌, ℕ, ◌+◌, ◌*◌, ◌/◌, ◌%◌, ◌^◌, ◌==◌, ◌&&◌, ◌<◌, ◌≤◌, Bool, true, false, cond, List, [], ◌∷◌, length, Option, Some, None, Result, Ok, Err, refl, subst, arith}
 use Rattle.std.specs.Prelude.{not, nat_le, nat_lt}
 use Rattle.std.specs.Option.{option_and_then, IfSome}
 use Rattle.std.proofs.Math.Nat.{mul-le-mul_left}
@@ -59,9 +59,6 @@ path_within bytes low (weight ∷ ws) at h =
 abbrev pub IsWhole : Array → Type 0
 IsWhole a = a.index_at + a.entry_size * blocks_of a.count ≤ length a.bytes
 
-
-
-
 if_some : {X : Type 0} (Q : X → Type 0) (b : Bool) (o p : Option X) (a : X) → cond b o p ≡ Some a → (b ≡ true → o ≡ Some a → Q a) → (b ≡ false → p ≡ Some a → Q a) → Q a
 if_some Q true o p a e here there = here refl e
 if_some Q false o p a e here there = there refl e
@@ -101,7 +98,7 @@ element_of_within a index whole =
     let P : Answer → Type 0 = λ s. IsWithin (length a.bytes) s in
     either_way P (nat_lt index a.count) (in_block a index (field_at a.entry_size a.bytes (entry_place a index))) (Ok None)
     (λ t. let below : index < a.count = grind (arith, nat_tests) in
-        in_block_within a index (field_at a.entry_size a.bytes (entry_place a index)) (entry_within a index whole below))
+    in_block_within a index (field_at a.entry_size a.bytes (entry_place a index)) (entry_within a index whole below))
     (λ _. tt)
 
 -- the place of content, and of what is cut

@@ -1,5 +1,5 @@
 -- What is computed of the fixup that bytes begin with is what the relation of fixups and their spellings says.
-use Rattle.std.proofs.Common.{◌≡◌, ◌≤◌, ◌<◌, ◌+◌, ◌-◌, ◌*◌, ◌==◌, ◌&&◌, ℕ, Bool, true, false, cond, List, [], ◌∷◌, ◌++◌, length, drop, Option, Some, None, unwrap_or, refl, sym, ap, ◌∙◌, subst, append_assoc, arith}
+use Rattle.std.proofs.Common.{◌≡◌, ◌<◌, ◌+◌, ◌-◌, ◌*◌, ◌==◌, ◌&&◌, ℕ, Bool, true, false, cond, List, [], ◌∷◌, ◌++◌, length, drop, Some, None, unwrap_or, refl, sym, ap, ◌∙◌, subst, append_assoc, arith}
 use Rattle.std.proofs.lemmas.Bool.{lt-ltb, le-ltb, le-leb}
 use Rattle.std.proofs.lemmas.Bool.Decides.{nat_tests}
 use Rattle.std.specs.Prelude.{nat_lt}
@@ -8,10 +8,9 @@ use Rattle.rtr_bytes.specs.Compressed.{IsCompressed}
 use Rattle.rtr_bytes.specs.Spelling.{BeginsAt}
 use Rattle.fixup_sigs.specs.declared.fixup.Fixup.{Fixup}
 use Rattle.fixup_sigs.specs.declared.fixup.Fixup.TheVariants as fixups
-use Rattle.fixup_sigs.specs.declared.fixup.SigType.{SigType}
 use Rattle.fixup_sigs.specs.declared.fixup.SigType.TheVariants as types
 use Rattle.fixup_sigs.specs.declared.fixup.FieldToken.{FieldToken}
-use Rattle.fixup_sigs.specs.Fixup.{IsElement, IsFixup, IsFieldToken, IsSigType, IsPair, IsBehind, flags_of}
+use Rattle.fixup_sigs.specs.Fixup.{IsElement, IsFixup, IsFieldToken, IsSigType, IsPair, flags_of}
 use Rattle.rtr_sections.specs.Fixups.{Found, made, then_in, two_in, four_in, number_in, is_element, element_in, type_in, array_in, token, row_in, field_in, payload_in, fixup_in, fixup_at}
 
 -- ---- what is found is spelled
@@ -69,7 +68,7 @@ four_sound high (b ∷ c ∷ []) n rest e = none_some n rest e
 four_sound high (b ∷ c ∷ d ∷ more) n rest e =
     chosen (nat_lt b 256 && nat_lt c 256 && nat_lt d 256) (Some (((high * 256 + b) * 256 + c) * 256 + d, more)) None (Some (n, rest)) e
     (λ t s. let (same, end) = same_found (((high * 256 + b) * 256 + c) * 256 + d) n more rest s in
-        (b, c, d, ap (λ r. b ∷ c ∷ d ∷ r) end, grind (arith, nat_tests), grind (arith, nat_tests), grind (arith, nat_tests), sym same))
+    (b, c, d, ap (λ r. b ∷ c ∷ d ∷ r) end, grind (arith, nat_tests), grind (arith, nat_tests), grind (arith, nat_tests), sym same))
     (λ t s. none_some n rest s)
 
 number_sound : IsSound IsCompressed number_in
@@ -79,10 +78,10 @@ number_sound (a ∷ more) n rest e =
     chosen (nat_lt a 0x80) (Some (a, more)) (cond (nat_lt a 0xC0) (two_in (a - 0x80) more) (cond (nat_lt a 0xE0) (four_in (a - 0xC0) more) None)) (Some (n, rest)) e
     (λ t s. let (same, end) = same_found a n more rest s in (a ∷ [], ap (λ r. a ∷ r) end, (grind (arith, nat_tests), sym same)))
     (λ big s. chosen (nat_lt a 0xC0) (two_in (a - 0x80) more) (cond (nat_lt a 0xE0) (four_in (a - 0xC0) more) None) (Some (n, rest)) s
-        (λ t u. let (b, parts, byte, is) = two_sound (a - 0x80) more n rest u in (a ∷ b ∷ [], ap (λ r. a ∷ r) parts, (grind (arith, nat_tests), grind (arith, nat_tests), byte, is)))
-        (λ bigger u. chosen (nat_lt a 0xE0) (four_in (a - 0xC0) more) None (Some (n, rest)) u
-            (λ t v. let (b, c, d, parts, one, two, three, is) = four_sound (a - 0xC0) more n rest v in (a ∷ b ∷ c ∷ d ∷ [], ap (λ r. a ∷ r) parts, (grind (arith, nat_tests), grind (arith, nat_tests), one, two, three, is)))
-            (λ t v. none_some n rest v)))
+    (λ t u. let (b, parts, byte, is) = two_sound (a - 0x80) more n rest u in (a ∷ b ∷ [], ap (λ r. a ∷ r) parts, (grind (arith, nat_tests), grind (arith, nat_tests), byte, is)))
+    (λ bigger u. chosen (nat_lt a 0xE0) (four_in (a - 0xC0) more) None (Some (n, rest)) u
+    (λ t v. let (b, c, d, parts, one, two, three, is) = four_sound (a - 0xC0) more n rest v in (a ∷ b ∷ c ∷ d ∷ [], ap (λ r. a ∷ r) parts, (grind (arith, nat_tests), grind (arith, nat_tests), one, two, three, is)))
+    (λ t v. none_some n rest v)))
 
 number_whole : IsWhole IsCompressed number_in
 unfolding number_in
@@ -111,7 +110,7 @@ element_sound [] e rest told = none_some e rest told
 element_sound (a ∷ more) e rest told =
     chosen (is_element a) (Some (a, more)) None (Some (e, rest)) told
     (λ t s. let (same, end) = same_found a e more rest s in
-        (e ∷ [], ap (λ r. a ∷ r) end ∙ ap (λ b. b ∷ rest) same, (refl, subst IsElement same (element_of a t))))
+    (e ∷ [], ap (λ r. a ∷ r) end ∙ ap (λ b. b ∷ rest) same, (refl, subst IsElement same (element_of a t))))
     (λ t s. none_some e rest s)
 
 element_whole : IsWhole IsElementByte element_in
@@ -131,9 +130,9 @@ behind_sound : {X Y : Type 0} (Spells : List ℕ → X → Type 0) (Made : List 
     → ((s : List ℕ) (x : X) → Spells s x → Made (k ∷ s) (f x)) → (a == k) ≡ true → ◌≡◌ {A = Found Y} (made f (read more)) (Some (y, rest)) → Begins Made (a ∷ more) y rest
 behind_sound {Y = Y} Spells Made read f k a more y rest sound spelled test e =
     made_of f (read more) y rest e (λ x found is.
-        let (s, parts, h) = sound more x rest found in
-        let P : Y → Type 0 = λ z. Made (k ∷ s) z in
-        (k ∷ s, ap (λ b. b ∷ more) (eqb-eq a k test) ∙ ap (λ r. k ∷ r) parts, subst P is (spelled s x h)))
+    let (s, parts, h) = sound more x rest found in
+    let P : Y → Type 0 = λ z. Made (k ∷ s) z in
+    (k ∷ s, ap (λ b. b ∷ more) (eqb-eq a k test) ∙ ap (λ r. k ∷ r) parts, subst P is (spelled s x h)))
 
 array_spelled : (s : List ℕ) (x : ℕ) → IsElementByte s x → IsSigType (0x1D ∷ s) (types.Array x)
 array_spelled s x (is, element) = (ap (λ r. 0x1D ∷ r) is, element)
@@ -219,9 +218,9 @@ offset_sound : (more : List ℕ) (fixup : Fixup) (rest : List ℕ) → ◌≡◌
 offset_sound more fixup rest e =
     then_of (number_in more) (λ offset behind. made (fixups.CheckFieldOffset offset) (field_in behind)) fixup rest e (λ offset behind found told.
     made_of (fixups.CheckFieldOffset offset) (field_in behind) fixup rest told (λ field there same.
-        let (s, parts, h) = pair_sound IsCompressed IsFieldToken more behind rest offset field (number_sound more offset behind found) (field_sound behind field rest there) in
-        let P : Fixup → Type 0 = λ f. IsFixup (0x2B ∷ s) f in
-        (0x2B ∷ s, ap (λ r. 0x2B ∷ r) parts, subst P same (s, refl, h))))
+    let (s, parts, h) = pair_sound IsCompressed IsFieldToken more behind rest offset field (number_sound more offset behind found) (field_sound behind field rest there) in
+    let P : Fixup → Type 0 = λ f. IsFixup (0x2B ∷ s) f in
+    (0x2B ∷ s, ap (λ r. 0x2B ∷ r) parts, subst P same (s, refl, h))))
 
 payload_sound : (kind : ℕ) (more : List ℕ) (fixup : Fixup) (rest : List ℕ) → ◌≡◌ {A = Found Fixup} (payload_in kind more) (Some (fixup, rest)) → Begins IsFixup (kind ∷ more) fixup rest
 unfolding payload_in
@@ -305,4 +304,4 @@ pub fixup_at-none : (bytes : List ℕ) (at : ℕ) → ((fixup : Fixup) (next : �
 unfolding fixup_at
 fixup_at-none bytes at never =
     none_found (fixup_in (drop at bytes)) (λ fixup rest e.
-        let (s, parts, h) = fixup_sound (drop at bytes) fixup rest e in never fixup (at + length s) (s, rest, parts, h, refl))
+    let (s, parts, h) = fixup_sound (drop at bytes) fixup rest e in never fixup (at + length s) (s, rest, parts, h, refl))

@@ -1,5 +1,5 @@
 -- What is known of a native header that is there.
-use Rattle.std.proofs.Common.{◌≡◌, ℕ, ◌==◌, ◌&&◌, Bool, true, false, cond, Option, Some, None, is_some, refl, ap}
+use Rattle.std.proofs.Common.{◌≡◌, ℕ, ◌==◌, ◌&&◌, Bool, true, false, cond, Some, None, ap}
 use Rattle.rtr_bytes.specs.declared.fault.Span.{Span}
 use Rattle.pe_image.specs.Headers.{native_span}
 

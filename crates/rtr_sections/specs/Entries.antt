@@ -1,9 +1,8 @@
 -- MethodDefEntryPoints (ReadyToRun File Format, "READYTORUN_SECTION_METHODDEF_ENTRYPOINTS"): a sparse array by
 -- MethodDef rows, whose elements name a method's function and the slots that it needs.
-use Rattle.std.specs.Prelude.{ℕ, ◌+◌, ◌-◌, ◌*◌, ◌/◌, ◌%◌, ◌==◌, ◌&&◌, ◌||◌, List, [], take, drop, Bool, false, Option, Some, None, Result, Ok, Err, if◌then◌else◌, nat_le, nat_lt}
+use Rattle.std.specs.Prelude.{ℕ, ◌+◌, ◌-◌, ◌*◌, ◌/◌, ◌%◌, ◌==◌, ◌&&◌, ◌||◌, List, [], take, drop, Bool, false, Option, Some, None, Ok, Err, if◌then◌else◌, nat_le, nat_lt}
 use Rattle.std.specs.Option.{option_map, option_map_or, option_and_then}
 use Rattle.std.specs.List.{list_all}
-use Rattle.rtr_bytes.specs.declared.fault.Fault.{Fault}
 use Rattle.rtr_bytes.specs.declared.fault.Span.{Span}
 use Rattle.rtr_bytes.specs.Field.{u32_of}
 use Rattle.native_format.specs.declared.nibbles.SlotRef.{SlotRef}

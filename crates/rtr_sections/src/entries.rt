@@ -40,7 +40,11 @@ fn head_of(bytes: &[u8], len: u32) -> &[u8]
     ensures { result.now ≡ take len bytes.now }
 {
     let len = len as usize;
-    if len <= bytes.len() { &bytes[..len] } else { bytes }
+    if len <= bytes.len() {
+        &bytes[..len]
+    } else {
+        bytes
+    }
 }
 
 /// The bytes of a part.
@@ -148,8 +152,7 @@ impl EntryPoint {
         requires in_reach { named.imports.start + named.imports.len < 2 ^ 32 }
         ensures { result ≡ is_linked bytes.now named.imports named.functions self.now }
     {
-        self.function < named.functions
-            && are_slots(bytes, named.imports, self.fixups.as_slice())
+        self.function < named.functions && are_slots(bytes, named.imports, self.fixups.as_slice())
     }
 
     /// The entry at a place of a part, once it is whole and what it names exists.

@@ -32,9 +32,15 @@ const OWN: [Piece; 24] = [
     (692, &[103, 0, 0, 0, 0x30, 0x11, 0, 0, 10, 0, 0, 0]),
     (704, &[106, 0, 0, 0, 0x50, 0x11, 0, 0, 4, 0, 0, 0]),
     (720, b"r2r profile 1\0"),
-    (736, b"\x10\x11\0\0\x08\0\0\0\x01\0\0\x08\x08\x11\0\0\0\0\0\0"),
+    (
+        736,
+        b"\x10\x11\0\0\x08\0\0\0\x01\0\0\x08\x08\x11\0\0\0\0\0\0",
+    ),
     (756, b"\0\x10\0\0\0\0\0\0\0\0\0\x08\0\x10\0\0\0\0\0\0"),
-    (776, b"\x0C\x11\0\0\x1A\x08\0\0\x01\x02\x03\x04\x05\x06\x07\x08"),
+    (
+        776,
+        b"\x0C\x11\0\0\x1A\x08\0\0\x01\x02\x03\x04\x05\x06\x07\x08",
+    ),
     (792, b"\x40\x11\0\0\x28\x11\0\0\x48\x11\0\0\x2C\x11\0\0"),
     (808, &[8, 0, 0, 0, 4, 0, 0, 0]),
     (816, &[0x10, 1, 2, 2, 2, 0x16, 0, 0x0A, 0, 0]),
@@ -120,7 +126,11 @@ fn reads_an_own_image(rt: HostRuntime) -> Result<(), Fail> {
 #[test]
 fn reads_entries(rt: HostRuntime) -> Result<(), Fail> {
     let image = image_of(rt.alloc(), &[])?;
-    let first = image.entries.as_slice().first().ok_or("row 1 has an entry")?;
+    let first = image
+        .entries
+        .as_slice()
+        .first()
+        .ok_or("row 1 has an entry")?;
     assert_eq!(rt; first.row, 1);
     assert_eq!(rt; first.function, 0);
     assert_eq!(rt; first.fixups.as_slice().len(), 0);
@@ -149,7 +159,10 @@ fn foreign_images(rt: HostRuntime) -> Result<(), Fail> {
     let table: [&[Piece]; 4] = [
         &[(720, b"other"), (747, &[4])],
         &[(644, &[6]), (780, &[0x13]), (792, &[0x42]), (816, &[0x16])],
-        &[(68, &[0x64, 0x86]), (704, b"\x76\0\0\0\x01\x02\x03\x04\x05\x06\x07\x08")],
+        &[
+            (68, &[0x64, 0x86]),
+            (704, b"\x76\0\0\0\x01\x02\x03\x04\x05\x06\x07\x08"),
+        ],
         &[(664, &[13]), (676, &[40]), (746, &[2, 16])],
     ];
     for changes in table {

@@ -1,6 +1,5 @@
-use Rattle.std.proofs.Common.{◌≡◌, ◌+◌, ◌<◌, ◌≤◌, ◌∙◌, Some, Ok, Err, None, refl, sym, arith}
+use Rattle.std.proofs.Common.{◌≡◌, ◌+◌, ◌<◌, ◌∙◌, Some, Ok, Err, None, refl, sym, arith}
 use Rattle.native_format.specs.Sparse.{element_of}
-use Rattle.rtr_sections.specs.Numbered.{first_bad}
 use Rattle.rtr_sections.specs.Entries.{cut_place}
 use Rattle.rtr_sections.proofs.Numbered.{first_bad-step, first_bad-found, first_bad-end}
 use Rattle.native_format.proofs.SparseWithin.{array_at_whole, cut_within}

@@ -1,4 +1,4 @@
-use Rattle.std.proofs.Common.{◌≡◌, ◌∙◌, Ok, sym}
+use Rattle.std.proofs.Common.{◌∙◌, sym}
 use Rattle.native_format.proofs.SparseWithin.{array_at_whole, answer_within}
 use Rattle.rtr_sections.proofs.entries.content_at.Goals as goal
 

@@ -1,8 +1,8 @@
-use Rattle.std.proofs.Common.{◌≡◌, ◌+◌, ◌<◌, ◌++◌, ◌∙◌, [], ◌∷◌, Option, Some, None, ℕ, refl, sym, ap, subst, arith}
+use Rattle.std.proofs.Common.{◌≡◌, ◌+◌, ◌<◌, ◌∙◌, Some, None, sym, arith}
 use Rattle.std.proofs.lemmas.Result.{err_from_is_err_and}
 use Rattle.native_format.specs.Sparse.{element_of}
-use Rattle.rtr_sections.specs.Numbered.{first_bad, present}
-use Rattle.rtr_sections.specs.Entries.{content_of, entry_at, entry_of, unlinked_at, unlinked_place}
+use Rattle.rtr_sections.specs.Numbered.{present}
+use Rattle.rtr_sections.specs.Entries.{content_of, entry_of, unlinked_at, unlinked_place}
 use Rattle.rtr_sections.proofs.Numbered.{first_bad-step, first_bad-end, present-more, present-none, present-end}
 use Rattle.rtr_sections.proofs.EntriesRead.{entry_some, entry_none, place_some, place_none, refused_of}
 use Rattle.rtr_sections.proofs.entries.read_all.Goals as goal
@@ -33,22 +33,22 @@ loop-index-preserved c =
     let bad = unlinked_place bytes part named.imports named.functions a in
     let below : i < a.count = omega arith in
     elim c.match-content_at.branch [
-      in-Some+in_ok-entry+in_ok-push w ↦
-        let at = w.in-Some.at in
-        let entry = w.in_ok-entry.entry in
-        let content : content_of (element_of a i) ≡ Some at = sym c.content_at.ensures.place ∙ w.in-Some.is in
-        let there : entry_of bytes part a i ≡ Some entry = entry_some bytes part a i at content ∙ w.in_ok-entry.ensures.entry in
-        let good : unlinked_place bytes part named.imports named.functions a i ≡ None = place_some bytes part named.imports named.functions a i at content ∙ w.in_ok-entry.ensures.ok in
-        record {
-          read = rw (w.entries-is, w.in_ok-push.ensures.items) (present-more (entry_of bytes part a) a.count i c.loop-index.entries.items all entry below there c.loop-index.invariant.read);
-          checked = sym (first_bad-step bad a.count i below good) ∙ c.loop-index.invariant.checked;
-        }
-    | in_default w ↦
-        let content : content_of (element_of a i) ≡ None = sym c.content_at.ensures.place ∙ w.in_default.is in
-        record {
-          read = rw w.entries-is (present-none (entry_of bytes part a) a.count i c.loop-index.entries.items all below (entry_none bytes part a i content) c.loop-index.invariant.read);
-          checked = sym (first_bad-step bad a.count i below (place_none bytes part named.imports named.functions a i content)) ∙ c.loop-index.invariant.checked;
-        }
+      | in-Some+in_ok-entry+in_ok-push w ↦
+          let at = w.in-Some.at in
+          let entry = w.in_ok-entry.entry in
+          let content : content_of (element_of a i) ≡ Some at = sym c.content_at.ensures.place ∙ w.in-Some.is in
+          let there : entry_of bytes part a i ≡ Some entry = entry_some bytes part a i at content ∙ w.in_ok-entry.ensures.entry in
+          let good : unlinked_place bytes part named.imports named.functions a i ≡ None = place_some bytes part named.imports named.functions a i at content ∙ w.in_ok-entry.ensures.ok in
+          record {
+            read = rw (w.entries-is, w.in_ok-push.ensures.items) (present-more (entry_of bytes part a) a.count i c.loop-index.entries.items all entry below there c.loop-index.invariant.read);
+            checked = sym (first_bad-step bad a.count i below good) ∙ c.loop-index.invariant.checked;
+          }
+      | in_default w ↦
+          let content : content_of (element_of a i) ≡ None = sym c.content_at.ensures.place ∙ w.in_default.is in
+          record {
+            read = rw w.entries-is (present-none (entry_of bytes part a) a.count i c.loop-index.entries.items all below (entry_none bytes part a i content) c.loop-index.invariant.read);
+            checked = sym (first_bad-step bad a.count i below (place_none bytes part named.imports named.functions a i content)) ∙ c.loop-index.invariant.checked;
+          }
     ]
 
 pub returns-clause-ok : goal.returns-clause-ok

@@ -1,4 +1,4 @@
-use Rattle.std.proofs.Common.{◌≡◌, ◌≤◌, ℕ, List, Some, length, take, drop, sym, subst, arith}
+use Rattle.std.proofs.Common.{◌≡◌, ◌≤◌, ℕ, List, Some, length, drop, sym, subst, arith}
 use Rattle.std.proofs.lemmas.List.{length-take}
 use Rattle.native_format.specs.Sparse.{array_at}
 use Rattle.native_format.proofs.SparseWithin.{array_at-bytes}

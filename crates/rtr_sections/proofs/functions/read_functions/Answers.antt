@@ -4,7 +4,7 @@ use Rattle.std.proofs.lemmas.Bool.Decides.{nat_tests}
 use Rattle.std.proofs.lemmas.Result.{err_from_is_err_and}
 use Rattle.rtr_bytes.specs.Checks.{first_record, records}
 use Rattle.rtr_bytes.proofs.Tables.{records-more, records-end, first_record-step, first_record-found, first_record-end}
-use Rattle.rtr_sections.specs.Functions.{bad_function, end_before, function_at, function_count, function_holds, functions_in, holds_behind}
+use Rattle.rtr_sections.specs.Functions.{bad_function, function_at, function_count, function_holds, functions_in, holds_behind}
 use Rattle.rtr_sections.proofs.CodeEnds.{end_before-first, end_before-next}
 use Rattle.rtr_sections.proofs.functions.read_functions.Goals as goal
 

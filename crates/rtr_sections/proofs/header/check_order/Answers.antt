@@ -1,7 +1,6 @@
 use Rattle.std.proofs.Common.{◌≡◌, ◌+◌, ◌-◌, ◌*◌, ◌<◌, ◌∙◌, refl, Some, true, false, sym, ap, arith, ℕ}
 use Rattle.std.proofs.lemmas.Bool.Decides.{nat_tests}
 use Rattle.rtr_bytes.specs.Checks.{first_record}
-use Rattle.rtr_bytes.specs.Field.{u32_of}
 use Rattle.rtr_bytes.proofs.Tables.{first_record-step, first_record-found}
 use Rattle.rtr_sections.specs.Header.{records_at, record_count, ascends}
 use Rattle.rtr_sections.proofs.header.check_order.Goals as goal

@@ -1,4 +1,4 @@
-use Rattle.std.proofs.Common.{◌≡◌, ◌+◌, ◌*◌, ◌-◌, ◌<◌}
+use Rattle.std.proofs.Common.{◌≡◌, ◌+◌, ◌*◌, ◌-◌}
 use Rattle.rtr_bytes.specs.Checks.{first_record}
 use Rattle.rtr_sections.specs.Header.{ascends, records_at, record_count}
 use Rattle.rtr_sections.proofs.header.check_order.Given as goal

@@ -1,5 +1,4 @@
-use Rattle.std.proofs.Common.{◌≡◌, ◌+◌, ◌*◌, sym, subst, ap, ◌∙◌, is_some, true, ℕ, arith}
-use Rattle.pe_image.specs.Sections.{slice_of_rva}
+use Rattle.std.proofs.Common.{◌≡◌, ◌*◌, sym, arith}
 use Rattle.rtr_sections.proofs.Placed.{placed_end}
 use Rattle.rtr_sections.proofs.header.records_in.Goals as goal
 

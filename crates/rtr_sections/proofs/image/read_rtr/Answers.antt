@@ -1,11 +1,10 @@
-use Rattle.std.proofs.Common.{◌≡◌, ◌∙◌, List, Option, None, false, IfErr, OnOk, sym, ap, subst}
+use Rattle.std.proofs.Common.{◌≡◌, ◌∙◌, Option, None, false, IfErr, OnOk, sym, ap, subst}
 use Rattle.std.proofs.lemmas.Result.{err_from_is_err_and}
 use Rattle.rtr_bytes.specs.declared.fault.Fault.{Fault}
 use Rattle.rtr_bytes.specs.declared.fault.Span.{Span}
-use Rattle.rtr_bytes.specs.Checks.{fault_or, first_fault, RefusedBy}
+use Rattle.rtr_bytes.specs.Checks.{fault_or, RefusedBy}
 use Rattle.rtr_sections.specs.Header.{is_own, part_of}
 use Rattle.rtr_sections.specs.Imports.{unplaced_cells}
-use Rattle.rtr_sections.specs.Image.{own_checks, rtr_checks}
 use Rattle.rtr_sections.proofs.AllChecks.{refused_header, refused_imports, after_imports, none_foreign}
 use Rattle.rtr_sections.proofs.image.read_rtr.Goals as goal
 

@@ -1,6 +1,6 @@
-use Rattle.std.proofs.Common.{◌≡◌, ◌+◌, ◌*◌, ◌<◌, ◌++◌, ◌∙◌, refl, Option, Some, None, sym, ap, arith, ℕ}
+use Rattle.std.proofs.Common.{◌≡◌, ◌+◌, ◌*◌, ◌<◌, ◌++◌, ◌∙◌, refl, Some, None, sym, arith}
 use Rattle.rtr_sections.specs.Numbered.{first_bad, present}
-use Rattle.rtr_sections.specs.Imports.{array_at, cells_at, bad_word, first_bad_word, slot_at, slot_count, slot_of, slots_in}
+use Rattle.rtr_sections.specs.Imports.{array_at, bad_word, first_bad_word, slot_count, slot_of, slots_in}
 use Rattle.rtr_sections.proofs.Numbered.{first_bad-step, first_bad-found, first_bad-end, present-more, present-end}
 use Rattle.rtr_sections.proofs.SlotsRead.{slot_read, word_bad, word_good}
 use Rattle.rtr_sections.proofs.slots.read_section.Goals as goal

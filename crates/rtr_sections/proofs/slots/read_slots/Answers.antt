@@ -1,6 +1,5 @@
-use Rattle.std.proofs.Common.{◌≡◌, ◌++◌, ◌∙◌, Option, sym, subst, refl, arith, ℕ}
+use Rattle.std.proofs.Common.{◌∙◌, sym, arith}
 use Rattle.std.proofs.lemmas.Result.{err_from_is_err_and}
-use Rattle.rtr_bytes.specs.Checks.{fault_or, RefusedBy}
 use Rattle.rtr_sections.specs.Imports.{all_slots}
 use Rattle.rtr_sections.proofs.SlotsRead.{first_bad_of-step, first_bad_of-end, all_slots-more, all_slots-end, refused_of}
 use Rattle.rtr_sections.proofs.slots.read_slots.Goals as goal
