@@ -11,6 +11,7 @@ mod kind;
 mod laws;
 mod reading;
 mod signature;
+mod spellable;
 mod writing;
 
 pub use fixup::{FieldToken, Fixup, SigType};

@@ -137,3 +137,17 @@ fn no_fixups(rt: HostRuntime) {
     assert_eq!(rt; read_fixup(&[0x14, 0x03], 2), None);
     assert_eq!(rt; read_fixup(&[0x14, 0x03], u32::MAX), None);
 }
+
+#[test]
+fn spellable(rt: HostRuntime) {
+    let largest = (1 << 29) - 1;
+    assert!(rt; Fixup::Helper { number: largest }.is_spellable());
+    assert!(rt;
+        !Fixup::Helper {
+            number: largest + 1
+        }
+        .is_spellable()
+    );
+    assert!(rt; Fixup::NewArray { elem: 0x0B }.is_spellable());
+    assert!(rt; !Fixup::NewArray { elem: 0x0C }.is_spellable());
+}

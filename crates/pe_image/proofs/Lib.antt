@@ -1,9 +1,9 @@
-mod NumbersInARow
+pub mod NumbersInARow
 mod PlacesLemmas
 mod HeaderLemmas
 mod TableLemmas
 mod RawLemmas
-mod ReadBack
+pub mod ReadBack
 mod ValuesLemmas
 mod WrittenLemmas
 mod InputLemmas

@@ -16,7 +16,7 @@ use Rattle.pe_image.specs.Places.{aligned, highest_end, dat_rva, cod_rva, header
 use Rattle.pe_image.specs.Written.{KeepsRanges, FindsPart}
 use Rattle.pe_image.specs.Pieces.{raw_of, raw_parts}
 use Rattle.pe_image.proofs.PlacesLemmas.{aligned-512, aligned-65536, padded_before, placed_from-append, length-placed_from}
-use Rattle.pe_image.proofs.RawLemmas.{Holds, AllZip-left, AllZip-right, kept_in, find_behind, part_found}
+use Rattle.pe_image.proofs.RawLemmas.{Holds, AllZip-left, AllZip-right, kept_in, find_behind, found_in, part_found}
 use Rattle.pe_image.proofs.ReadBack.{cli_at-is, early_pass, late_checks, late, none_late, same_field}
 use Rattle.pe_image.proofs.FileLemmas.{Parts, the_file, file_holds, file_has, file_sections, file_laid}
 
@@ -79,7 +79,7 @@ looked_up sections bytes dat cod cli rva len p above behind =
 
 pub file_dat : (sections : List PeSection) (bytes dat cod : List ℕ) (cli : ℕ) → Parts sections bytes dat cod cli
     → FindsPart (sections_of (the_file sections bytes dat cod cli)) (the_file sections bytes dat cod cli) (dat_rva sections) dat
-file_dat sections bytes dat cod cli p start len above inside =
+file_dat sections bytes dat cod cli p =
     let out = the_file sections bytes dat cod cli in
     let at = end_from (raw_start sections) sections in
     let room = p.writable.room_in_image in
@@ -88,8 +88,12 @@ file_dat sections bytes dat cod cli p start len above inside =
     let s : PeSection = record (dat_section sections (length dat)) { raw_at = at } in
     let others = placed_from (at + aligned 512 (aligned 512 (length dat))) (cod_section sections (length dat) (length cod) ∷ []) in
     let held = new_held sections bytes dat cod out (length dat) (length cod) (file_holds sections bytes dat cod cli p) in
-    let f = part_found s others dat out start len inside size.low (omega arith) held.0 in
-    (f.0, looked_up sections bytes dat cod cli (dat_rva sections + start) len p above (omega arith) ∙ f.1, f.2)
+    record {
+      place = at;
+      rest = held.0.0;
+      stands = held.0.1;
+      found = λ start len above inside. looked_up sections bytes dat cod cli (dat_rva sections + start) len p above (omega arith) ∙ part_found s others dat start len inside size.low (omega arith);
+    }
 
 -- the first of two sections isn't the one
 second : (s : PeSection) (others : List PeSection) (rva len : ℕ) → s.rva + s.raw_size < rva + len → slice_of_rva (s ∷ others) rva len ≡ slice_of_rva others rva len
@@ -99,7 +103,7 @@ second s others rva len past =
 
 pub file_cod : (sections : List PeSection) (bytes dat cod : List ℕ) (cli : ℕ) → Parts sections bytes dat cod cli
     → FindsPart (sections_of (the_file sections bytes dat cod cli)) (the_file sections bytes dat cod cli) (cod_rva sections (length dat)) cod
-file_cod sections bytes dat cod cli p start len above inside =
+file_cod sections bytes dat cod cli p =
     let out = the_file sections bytes dat cod cli in
     let at = end_from (raw_start sections) sections in
     let room = p.writable.room_in_image in
@@ -110,10 +114,15 @@ file_cod sections bytes dat cod cli p start len above inside =
     let next = at + aligned 512 (aligned 512 (length dat)) in
     let s : PeSection = record (cod_section sections (length dat) (length cod)) { raw_at = next } in
     let held = new_held sections bytes dat cod out (length dat) (length cod) (file_holds sections bytes dat cod cli p) in
-    let f = part_found s [] cod out start len inside size.low (omega arith) held.1.0 in
     let before = padded_before (dat_rva sections) (length dat) rva.multiple in
-    let past : first.rva + first.raw_size < cod_rva sections (length dat) + start + len = omega arith in
-    (f.0, looked_up sections bytes dat cod cli (cod_rva sections (length dat) + start) len p above (omega arith) ∙ second first (s ∷ []) (cod_rva sections (length dat) + start) len past ∙ f.1, f.2)
+    record {
+      place = next;
+      rest = held.1.0.0;
+      stands = held.1.0.1;
+      found = λ start len above inside.
+          let past : first.rva + first.raw_size < cod_rva sections (length dat) + start + len = omega arith in
+          looked_up sections bytes dat cod cli (cod_rva sections (length dat) + start) len p above (omega arith) ∙ second first (s ∷ []) (cod_rva sections (length dat) + start) len past ∙ part_found s [] cod start len inside size.low (omega arith);
+    }
 
 -- ---- the CLI header
 
@@ -126,9 +135,10 @@ cli_found sections bytes dat cod cli p =
     let out = the_file sections bytes dat cod cli in
     let low = p.writable.cli_in_dat.0 in
     let high = p.writable.cli_in_dat.1 in
-    let f = file_dat sections bytes dat cod cli p (cli - dat_rva sections) 72 (omega arith) (omega arith) in
-    let is : dat_rva sections + (cli - dat_rva sections) ≡ cli = omega arith in
-    (f.0, ap (λ (t : ℕ). place_of out t 72) (sym is) ∙ f.1, f.2)
+    let f = file_dat sections bytes dat cod cli p in
+    let start = cli - dat_rva sections in
+    let is : dat_rva sections + start ≡ cli = omega arith in
+    (f.place + start, ap (λ (t : ℕ). place_of out t 72) (sym is) ∙ f.found start 72 (omega arith) (omega arith), found_in out dat f.rest f.place start 72 (omega arith) f.stands)
 
 pub file_cli_place : (sections : List PeSection) (bytes dat cod : List ℕ) (cli : ℕ) → Parts sections bytes dat cod cli
     → place_of (the_file sections bytes dat cod cli) cli 72 ≡ Some (cli_at (the_file sections bytes dat cod cli))

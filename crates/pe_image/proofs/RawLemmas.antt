@@ -161,15 +161,13 @@ find_behind (s ∷ ss) more at rva len h e =
     ap (λ (b : Bool). cond b (Some (record s { raw_at = at })) (find (has_range rva len) (placed_from (at + aligned 512 s.raw_size) (ss ++ more)))) miss ∙ others
 
 -- a range within a part is found in the part's section
-pub part_found : (s : PeSection) (others : List PeSection) (part bytes : List ℕ) (start len : ℕ) → start + len ≤ length part → length part ≤ s.raw_size → s.rva + start + len ≤ 2 ^ 32 → Holds bytes s part
-    → (place : ℕ) × (slice_of_rva (s ∷ others) (s.rva + start) len ≡ Some place) × (take len (drop place bytes) ≡ take len (drop start part))
-part_found s others part bytes start len h fits small (rest, holds) =
+pub part_found : (s : PeSection) (others : List PeSection) (part : List ℕ) (start len : ℕ) → start + len ≤ length part → length part ≤ s.raw_size → s.rva + start + len ≤ 2 ^ 32
+    → slice_of_rva (s ∷ others) (s.rva + start) len ≡ Some (s.raw_at + start)
+part_found s others part start len h fits small =
     let d : s.rva + start - s.rva ≡ start = omega arith in
     let low : s.rva ≤ s.rva + start = omega arith in
     let high : s.rva + start + len ≤ s.rva + s.raw_size = omega arith in
     let hit : has_range (s.rva + start) len s ≡ true = and_from (leb s.rva (s.rva + start)) (leb (s.rva + start + len) (s.rva + s.raw_size)) (le-leb s.rva (s.rva + start) low) (le-leb (s.rva + start + len) (s.rva + s.raw_size) high) in
-    let found : slice_of_rva (s ∷ others) (s.rva + start) len ≡ Some (s.raw_at + start) =
     ap (λ (b : Bool). cond b (option_map (place_in (s.rva + start)) (find (has_range (s.rva + start) len) (s ∷ others))) None) (le-leb (s.rva + start + len) (2 ^ 32) small)
     ∙ ap (λ (b : Bool). option_map (place_in (s.rva + start)) (cond b (Some s) (find (has_range (s.rva + start) len) others))) hit
-    ∙ ap (λ (t : ℕ). Some (s.raw_at + t)) d in
-    (s.raw_at + start, found, found_in bytes part rest s.raw_at start len h holds)
+    ∙ ap (λ (t : ℕ). Some (s.raw_at + t)) d

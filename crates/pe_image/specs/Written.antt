@@ -1,6 +1,6 @@
 -- A written PE file: when one can be written, the numbers of its headers by their places (PE/COFF 2 to 3.4), and the
 -- bytes that its RVAs keep.
-use Rattle.std.specs.Prelude.{◌≡◌, ℕ, ◌+◌, ◌^◌, ◌<◌, ◌≤◌, ◌==◌, ◌||◌, List, [], ◌∷◌, length, take, drop, All, nat_le, Some, IsSome, None, if◌then◌else◌}
+use Rattle.std.specs.Prelude.{◌≡◌, ℕ, ◌+◌, ◌^◌, ◌<◌, ◌≤◌, ◌==◌, ◌||◌, List, [], ◌∷◌, ◌++◌, length, take, drop, All, nat_le, Some, IsSome, None, if◌then◌else◌}
 use Rattle.rtr_bytes.specs.declared.fault.Span.{Span}
 use Rattle.rtr_bytes.specs.declared.fault.Fault.{Fault}
 use Rattle.rtr_bytes.specs.Checks.{first_fault}
@@ -94,11 +94,12 @@ KeepsRanges old_sections old new_sections new =
     (rva len place : ℕ) → slice_of_rva old_sections rva len ≡ Some place
     → (kept : ℕ) × (slice_of_rva new_sections rva len ≡ Some kept) × (take len (drop kept new) ≡ take len (drop place old))
 
--- each range within a part, at the part's RVA, is found with the part's bytes
-abbrev pub FindsPart : List PeSection → List ℕ → ℕ → List ℕ → Type 0
-FindsPart sections bytes rva part =
-    (start len : ℕ) → 0 < len → start + len ≤ length part
-    → (place : ℕ) × (slice_of_rva sections (rva + start) len ≡ Some place) × (take len (drop place bytes) ≡ take len (drop start part))
+-- A part stands in one piece at a place of the bytes, and each range within it that isn't empty is found there by its RVA.
+pub record FindsPart (sections : List PeSection) (bytes : List ℕ) (rva : ℕ) (part : List ℕ) : Type 0 where
+  pub place : ℕ
+  pub rest : List ℕ
+  pub stands : drop place bytes ≡ part ++ rest
+  pub found : (start len : ℕ) → 0 < len → start + len ≤ length part → slice_of_rva sections (rva + start) len ≡ Some (place + start)
 
 -- directory 14 names a CLI header in a section: the 72 bytes at a place of a part
 abbrev pub HasCliHeader : List ℕ → ℕ → List ℕ → ℕ → Type 0

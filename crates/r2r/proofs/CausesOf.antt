@@ -5,8 +5,7 @@ use Rattle.rtr_bytes.specs.declared.fault.Fault.{Fault}
 use Rattle.rtr_bytes.specs.Checks.{first_fault}
 use Rattle.rtr_outside.specs.Files.{Contents, Call, Read, IsToldAs, IsToldLonger, file_limit}
 use Rattle.rtr_outside.specs.Sink.{Appends}
-use Rattle.r2r.specs.Dump.{dump_checks}
-use Rattle.r2r.specs.Text.{dump_text}
+use Rattle.r2rdump.specs.Dump.{dump_checks, dump_text}
 use Rattle.r2r.specs.Outcome.{read_failed_line, malformed_line, too_long_line, Prints, CutsShort, Ends, IsReply, IsFileReply, ReadFailed, TooLong, WasRead, DumpEnds, faulted}
 use Rattle.r2r.specs.Causes.{DumpCauses, IsOneOf, Tells, TellsNone, statuses_of, statuses_by_fault}
 

@@ -1,5 +1,2 @@
-pub mod Placed
-pub mod NativeLemmas
-pub mod Trimmed
-pub mod Written
+pub mod FileRead
 pub mod CausesOf

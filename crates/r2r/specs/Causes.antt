@@ -4,11 +4,10 @@ use Rattle.std.specs.List.{list_any}
 use Rattle.rtr_bytes.specs.declared.fault.Fault.{Fault}
 use Rattle.rtr_bytes.specs.Checks.{first_fault}
 use Rattle.rtr_outside.specs.Files.{Contents, Call, Read, IsToldAs, IsToldLonger, file_limit}
-use Rattle.rtr_outside.specs.Sink.{Appends, Rose}
+use Rattle.rtr_outside.specs.Sink.{Appends, PrintsFront, Rose}
 use Rattle.r2r.specs.Command.{Command, Dump}
-use Rattle.r2r.specs.Dump.{dump_checks}
-use Rattle.r2r.specs.Text.{dump_text}
-use Rattle.r2r.specs.Outcome.{read_failed_line, malformed_line, too_long_line, Prints, PrintsFront}
+use Rattle.r2rdump.specs.Dump.{dump_checks, dump_text}
+use Rattle.r2r.specs.Outcome.{read_failed_line, malformed_line, too_long_line, Prints}
 
 -- where the words are a dump of a file, this holds of its name
 abbrev pub IfDump : Option Command → (List ℕ → Type 0) → Type 0

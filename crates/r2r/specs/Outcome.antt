@@ -1,11 +1,11 @@
 -- What the top call leaves behind it: lines of refusals, what came to the output, and what a file was read as.
-use Rattle.std.specs.Prelude.{◌≡◌, ℕ, zero, suc, ◌≤◌, List, [], ◌∷◌, ◌++◌, ◌⊎◌, take, length, codes, decimal, Option, Some, None}
+use Rattle.std.specs.Prelude.{◌≡◌, ℕ, zero, suc, ◌≤◌, List, [], ◌∷◌, ◌++◌, ◌⊎◌, length, codes, decimal, Option, Some, None}
 use Rattle.rtr_bytes.specs.declared.fault.Fault.{Fault}
 use Rattle.rtr_bytes.specs.Checks.{first_fault}
 use Rattle.rtr_outside.specs.Files.{Contents, Call, Read, IsToldAs, IsToldLonger, file_limit}
-use Rattle.rtr_outside.specs.Sink.{Appends, Rose}
-use Rattle.r2r.specs.Dump.{dump_checks}
-use Rattle.r2r.specs.Text.{printed_name, newline, dump_text}
+use Rattle.rtr_outside.specs.Sink.{Appends, PrintsFront, Rose}
+use Rattle.r2rdump.specs.Text.{printed_name, newline}
+use Rattle.r2rdump.specs.Dump.{dump_checks, dump_text, IsUntouched}
 
 abbrev pub usage_line : List ℕ
 usage_line = codes "usage: r2r compile IN -o OUT [--ref F].. [--fields cell|burn] | run IMAGE [--ref F].. [--entry T::M] [--worker A,B].. [--ticks N] [--cells] | dump FILE | big N\n"
@@ -39,10 +39,6 @@ abbrev pub faulted : ℕ → ℕ
 faulted zero = 5
 faulted (suc n) = suc n
 
--- the output took a front of the text, where it tells
-abbrev pub PrintsFront : {S : Type 0} → (S → Option (List ℕ)) → List ℕ → S → S → Type 0
-PrintsFront written text old new = (k : ℕ) × Appends (take k text) (written old) (written new)
-
 -- the output had a fault and took a front of the text
 abbrev pub CutsShort : {S : Type 0} → (S → Option (List ℕ)) → (S → ℕ) → List ℕ → S → S → Type 0
 CutsShort written faults text old new = Rose (faults old) (faults new) × PrintsFront written text old new
@@ -61,3 +57,9 @@ abbrev pub DumpEnds : {S : Type 0} → (S → Option (List ℕ)) → (S → ℕ)
 DumpEnds written faults contents old new name before after result =
     ((status : ℕ) × (text : List ℕ) × IsReply contents old new name status text × Ends written faults status text before after result)
     ⊎ ((result ≡ 7) × (written after ≡ written before) × (faults after ≡ faults before) × ((new ≡ old) ⊎ (new ≡ old ++ Read name ∷ [])))
+
+-- the same of a file's bytes
+abbrev pub BytesEnd : {S : Type 0} → (S → Option (List ℕ)) → (S → ℕ) → List ℕ → List ℕ → S → S → ℕ → Type 0
+BytesEnd written faults name bytes before after result =
+    ((status : ℕ) × (text : List ℕ) × IsFileReply name bytes (first_fault dump_checks bytes) status text × Ends written faults status text before after result)
+    ⊎ ((result ≡ 7) × IsUntouched written faults before after)

@@ -1,14 +1,11 @@
-//! `r2r`: a compiler, loader and dumper of .NET ReadyToRun images. Today it dumps their headers.
+//! `r2r`: a compiler, loader and dumper of .NET ReadyToRun images. Today it dumps images.
 #![tactic(auto)]
 
 mod command;
-mod dump;
-mod dump_reply;
-mod native;
+mod dump_file;
 mod output;
 mod refusals;
 mod status;
-mod text;
 mod top;
 
 use rtr_outside::{OpenGate, RealFiles, RealSink};
@@ -42,3 +39,5 @@ fn main(rt: HostRuntime) -> ExitCode {
 
 #[cfg(test)]
 mod tests;
+#[cfg(test)]
+mod write_tests;

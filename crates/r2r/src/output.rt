@@ -1,45 +1,35 @@
-//! Writing a whole text to a sink.
+//! Writing the lines of refusals.
 
-ghost use Rattle.std.specs.Prelude.{◌≡◌, ◌≤◌, OnOk, OnErr};
-ghost use Rattle.rtr_outside.specs.Sink.{Appends, Rose};
-ghost use Rattle.r2r.specs.Outcome.{PrintsFront, Ends};
+ghost use Rattle.std.specs.Prelude.{◌≡◌, ◌≤◌, MatchResult};
+ghost use Rattle.r2r.specs.Outcome.{Prints};
+ghost use Rattle.r2rdump.specs.Dump.{IsUntouched};
 
 use crate::status;
-use crate::text::Text;
-use rtr_outside::{Sink, SinkFailed};
+use r2rdump::Text;
+use rtr_bytes::NoMemory;
+use rtr_outside::{Sink, write_all};
 
-/// Writes the whole text, in as many pieces as the sink takes.
-pub(crate) fn write_all<S: Sink>(out: &mut S, text: &[u8]) -> Result<(), SinkFailed>
-    ensures whole { OnOk result (Appends text.now (S.written out.old) (S.written out.new)) }
-    ensures front { OnErr result (PrintsFront S.written text.now out.old out.new) }
-    ensures failed { OnErr result (Rose (S.faults out.old) (S.faults out.new)) }
+/// Writes a refusal's line, as far as the output takes it.
+pub(crate) fn print<S: Sink>(out: &mut S, line: &[u8])
+    ensures printed { Prints S.written S.faults line.now out.old out.new }
     ensures never_falls { S.faults out.old ≤ S.faults out.new }
 {
-    let mut rest = text;
-    while !rest.is_empty() {
-        let taken = out.write(rest)?;
-        rest = rest.split_at(taken).1;
-    }
-    Ok(())
+    let _ = write_all(out, line);
 }
 
-/// A text that is to be printed, with the status that goes with it.
-#[derive(Drop)]
-pub(crate) struct Reply {
-    /// 0, or the status of a refusal.
-    pub status: u8,
-    /// A refusal's line, or what was asked for.
-    pub text: Text,
-}
-
-/// Writes a text whole, and answers what the program ends with: the text's status, or 5 where the status is 0
-/// and the output had a fault.
-pub(crate) fn print<S: Sink>(out: &mut S, text: &[u8], status: u8) -> u8
-    ensures ends { Ends S.written S.faults status text.now out.old out.new result }
+/// Writes the line of a refusal, and answers its status, whether the output took the line or not. Where there was
+/// no memory for the line it answers that.
+pub(crate) fn refuse<S: Sink>(out: &mut S, line: Result<Text, NoMemory>, status: u8) -> u8
+    ensures refused { MatchResult line
+        (λ text. Prints S.written S.faults text out.old out.new × (result ≡ status))
+        (λ _. (result ≡ 7) × IsUntouched S.written S.faults out.old out.new) }
     ensures never_falls { S.faults out.old ≤ S.faults out.new }
 {
-    match write_all(out, text) {
-        Err(_) if status == status::DONE => status::WRITE_FAULT,
-        _ => status,
+    match line {
+        Ok(text) => {
+            print(out, text.as_slice());
+            status
+        }
+        Err(NoMemory) => status::NO_MEMORY,
     }
 }

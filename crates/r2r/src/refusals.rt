@@ -1,10 +1,10 @@
 //! The lines of refusals.
 
 ghost use Rattle.std.specs.Prelude.{◌≡◌, ◌++◌, IfOk};
-ghost use Rattle.r2r.specs.Text.{printed_name, newline};
+ghost use Rattle.r2rdump.specs.Text.{printed_name, newline};
 ghost use Rattle.r2r.specs.Outcome.{read_failed_line, too_long_line, malformed_line};
 
-use crate::text::Text;
+use r2rdump::Text;
 use rtr_bytes::{Fault, NoMemory};
 use std::alloc::Global;
 

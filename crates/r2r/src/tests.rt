@@ -1,4 +1,4 @@
-//! Examples, and one broken file for each check.
+//! Examples, and a broken file for each check.
 
 use super::*;
 use rtr_outside::{FILE_LIMIT, MemFiles, MemSink, OpenGate, SureFiles, SureSink};
@@ -9,7 +9,7 @@ use std::thread::Threads;
 
 /// The least file that is well formed, of 1,024 bytes, zeros but for these: a place, and from there on bytes in
 /// hexadecimal. PE32+ for A64, one section, a CLI header and 20 bytes of metadata.
-const LEAST: &str =
+pub(crate) const LEAST: &str =
     "@0 4d5a @60 40 @64 50450000 64aa01 @84 f000 @88 0b02 @196 10 @312 0010000048 @328 2e74657874 @336 0002 @340 0010 @344 0002 @348 0002 @512 48 @520 4810000014 @528 01";
 
 const LEAST_TEXT: &str =
@@ -28,11 +28,92 @@ const OWN: &str =
 const OWN_TEXT: &str =
     "file T 1024\nmachine aa64 magic 020b\n.text rva 00001000 size 00000200 file 00000200 raw 00000200\ncli flags 00000001 entry 00000000\nnative own 5.0 flags 00000007 sections 2\nrtr 100 rva 00001150 size 0000000e\nrtr 118 rva 04030201 size 08070605\n";
 
+/// An image of this compiler: two import sections with two slots and one, two functions, and two entries, of which
+/// the second has a list of a slot of each section.
+const IMAGE: &str = "@576 801000004c @640 52545200 05000000 00000000 05000000
+@656 64000000 d0100000 0e000000 65000000 e0100000 28000000 66000000 38110000 10000000
+@692 67000000 48110000 0c000000 6a000000 6c110000 04000000 @720 7232722070726f66696c65203100
+@736 18110000 10000000 01000008 08110000 00000000 28110000 08000000 00000008 10110000 00000000
+@776 30110000 32110000 35110000 @816 1a08 1c1205 1403
+@824 60110000 58110000 68110000 5c110000 @840 100102020216000a10100000 @856 08000000 04000000";
+
+const IMAGE_TEXT: &str = "file T 1024
+machine aa64 magic 020b
+.text rva 00001000 size 00000200 file 00000200 raw 00000200
+cli flags 00000001 entry 00000000
+native own 5.0 flags 00000000 sections 5
+rtr 100 rva 000010d0 size 0000000e
+rtr 101 rva 000010e0 size 00000028
+rtr 102 rva 00001138 size 00000010
+rtr 103 rva 00001148 size 0000000c
+rtr 106 rva 0000116c size 00000004
+import 0 rva 00001118 size 00000010 flags 0001 type 0 entry 8 slots 2
+slot 0 1a08
+slot 1 1c1205
+import 1 rva 00001128 size 00000008 flags 0000 type 0 entry 8 slots 1
+slot 0 1403
+entry 06000001 function 0 begin 00001160 length 8 fixups
+entry 06000002 function 1 begin 00001168 length 4 fixups 0.1 1.0
+";
+
+/// Another identifier.
+const RENAMED: &str = "@720 52";
+
+const RENAMED_TEXT: &str = "file T 1024
+machine aa64 magic 020b
+.text rva 00001000 size 00000200 file 00000200 raw 00000200
+cli flags 00000001 entry 00000000
+native foreign 5.0 flags 00000000 sections 5
+rtr 100 rva 000010d0 size 0000000e
+rtr 101 rva 000010e0 size 00000028
+rtr 102 rva 00001138 size 00000010
+rtr 103 rva 00001148 size 0000000c
+rtr 106 rva 0000116c size 00000004
+import 0 rva 00001118 size 00000010 flags 0001 type 0 entry 8 slots 2
+import 1 rva 00001128 size 00000008 flags 0000 type 0 entry 8 slots 1
+";
+
+/// Another version, and section types up to 118, of which those from 107 on stand in no section.
+const LATER: &str = "@644 06000200 03 @680 6d @692 73 @696 ffffffff @704 76 @708 ffffffff";
+
+const LATER_TEXT: &str = "file T 1024
+machine aa64 magic 020b
+.text rva 00001000 size 00000200 file 00000200 raw 00000200
+cli flags 00000001 entry 00000000
+native foreign 6.2 flags 00000003 sections 5
+rtr 100 rva 000010d0 size 0000000e
+rtr 101 rva 000010e0 size 00000028
+rtr 109 rva 00001138 size 00000010
+rtr 115 rva ffffffff size 0000000c
+rtr 118 rva ffffffff size 00000004
+import 0 rva 00001118 size 00000010 flags 0001 type 0 entry 8 slots 2
+import 1 rva 00001128 size 00000008 flags 0000 type 0 entry 8 slots 1
+";
+
+/// Another machine, and three import records with cells of 4, of 16 and of no bytes.
+const CELLS: &str =
+    "@68 6486 @676 3c @744 03020104 @760 28 @764 04000210 @776 00100000 08000000 0000ff00 00000000 00000000";
+
+const CELLS_TEXT: &str = "file T 1024
+machine 8664 magic 020b
+.text rva 00001000 size 00000200 file 00000200 raw 00000200
+cli flags 00000001 entry 00000000
+native foreign 5.0 flags 00000000 sections 5
+rtr 100 rva 000010d0 size 0000000e
+rtr 101 rva 000010e0 size 0000003c
+rtr 102 rva 00001138 size 00000010
+rtr 103 rva 00001148 size 0000000c
+rtr 106 rva 0000116c size 00000004
+import 0 rva 00001118 size 00000010 flags 0203 type 1 entry 4 slots 4
+import 1 rva 00001128 size 00000028 flags 0004 type 2 entry 16 slots 2
+import 2 rva 00001000 size 00000008 flags 0000 type 255 entry 0 slots 0
+";
+
 const USAGE_LINE: &str =
     "usage: r2r compile IN -o OUT [--ref F].. [--fields cell|burn] | run IMAGE [--ref F].. [--entry T::M] [--worker A,B].. [--ticks N] [--cells] | dump FILE | big N\n";
 
 /// A file of zeros with pieces written over it in order: a place behind `@`, and bytes in hexadecimal.
-fn file_of(alloc: Global, len: usize, pieces: &[&str]) -> Result<Vec<u8>, Fail> {
+pub(crate) fn file_of(alloc: Global, len: usize, pieces: &[&str]) -> Result<Vec<u8>, Fail> {
     let mut bytes = vec![in alloc; 0u8; len]?;
     for piece in pieces {
         let mut at = 0;
@@ -74,7 +155,7 @@ fn one_file(alloc: Global, name: &str, bytes: Vec<u8>) -> Result<MemFiles, Fail>
 }
 
 /// Runs a command line over a file T, and expects a status and what is written.
-fn expect<R: Threads + Sync + Abort>(
+pub(crate) fn expect<R: Threads + Sync + Abort>(
     rt: &R,
     alloc: Global,
     line: &str,
@@ -83,7 +164,7 @@ fn expect<R: Threads + Sync + Abort>(
     text: &str,
 ) -> Result<(), Fail> {
     let mut files = one_file(alloc, "T", bytes)?;
-    let mut out = MemSink::new(alloc, 1_000, Vec::new(alloc))?;
+    let mut out = MemSink::new(alloc, 2_000, Vec::new(alloc))?;
     let words = words_of(alloc, line)?;
     let ended = r2r(rt, alloc, &words, &mut files, &mut out, &OpenGate);
     assert_eq!(rt; ended, status, "{line}");
@@ -134,6 +215,26 @@ fn well_formed_files(rt: HostRuntime) -> Result<(), Fail> {
     )
 }
 
+/// Dumps the image with some bytes written over it, and expects a text.
+fn expect_image<R: Threads + Sync + Abort>(
+    rt: &R,
+    alloc: Global,
+    changes: &str,
+    text: &str,
+) -> Result<(), Fail> {
+    let bytes = file_of(alloc, 1024, &[LEAST, IMAGE, changes])?;
+    expect(rt, alloc, "dump T", bytes, 0, text)
+}
+
+#[test]
+fn images(rt: HostRuntime) -> Result<(), Fail> {
+    let alloc = rt.alloc();
+    expect_image(&rt, alloc, "", IMAGE_TEXT)?;
+    expect_image(&rt, alloc, RENAMED, RENAMED_TEXT)?;
+    expect_image(&rt, alloc, LATER, LATER_TEXT)?;
+    expect_image(&rt, alloc, CELLS, CELLS_TEXT)
+}
+
 /// Changes of the least file, each with the check that fails then and its place.
 const BROKEN: &str = "@0 4e = check 2 at 0
 @60 e903 = check 3 at 60
@@ -156,22 +257,60 @@ const BROKEN: &str = "@0 4e = check 2 at 0
 @576 0011000010 @768 525452000500 @780 02 @784 05 @796 65 @800 0090000001 = check 20 at 800
 @344 0102 @512 47 = check 11 at 348";
 
-#[test]
-fn broken_files(rt: HostRuntime) -> Result<(), Fail> {
-    let alloc = rt.alloc();
-    for row in BROKEN.split('\n') {
+/// Changes of the image, each with the check that fails then and its place.
+const BROKEN_IMAGES: &str = "@676 29 = check 21 at 676
+@737 50 = check 22 at 736
+@746 01 = check 60 at 736
+@767 04 = check 60 at 756
+@740 0f = check 60 at 736
+@752 01 = check 60 at 736
+@749 50 = check 60 at 736
+@816 13 = check 61 at 776
+@819 11 = check 61 at 780
+@785 50 = check 61 at 784
+@688 11 = check 62 at 824
+@824 62 = check 62 at 824
+@829 50 = check 62 at 824
+@856 09 = check 62 at 824
+@833 50 = check 62 at 832
+@832 64 = check 62 at 832
+@840 16 = check 63 at 840
+@840 0f00000004 = check 63 at 840
+@841 ff = check 64 at 841
+@845 f6 = check 64 at 845
+@846 08 = check 65 at 846
+@847 12 = check 65 at 847
+@848 30 = check 65 at 847
+@756 20 = check 66 at 756
+@756 20 @846 08 = check 65 at 846";
+
+/// Expects the fault of each row of changes of a file.
+fn expect_faults<R: Threads + Sync + Abort>(
+    rt: &R,
+    alloc: Global,
+    front: &str,
+    rows: &str,
+) -> Result<(), Fail> {
+    for row in rows.split('\n') {
         let (change, fault) = row.split_once(" = ").ok_or("a row has two parts")?;
         let text = format!(in alloc; "malformed: T {fault}\n")?;
         expect(
-            &rt,
+            rt,
             alloc,
             "dump T",
-            file_of(alloc, 1024, &[LEAST, change])?,
+            file_of(alloc, 1024, &[LEAST, front, change])?,
             3,
             text.as_str(),
         )?;
     }
     Ok(())
+}
+
+#[test]
+fn broken_files(rt: HostRuntime) -> Result<(), Fail> {
+    let alloc = rt.alloc();
+    expect_faults(&rt, alloc, "", BROKEN)?;
+    expect_faults(&rt, alloc, IMAGE, BROKEN_IMAGES)
 }
 
 #[test]

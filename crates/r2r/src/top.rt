@@ -6,26 +6,13 @@ ghost use Rattle.r2r.specs.Outcome.{DumpEnds, Prints, usage_line};
 ghost use Rattle.r2r.specs.Causes.{DumpCauses, IfDump};
 
 use crate::command::Command;
-use crate::dump_reply::reply_to_dump;
+use crate::dump_file::dump_file;
 use crate::output::print;
 use crate::refusals::USAGE;
 use crate::status;
-use rtr_bytes::NoMemory;
 use rtr_outside::{Files, Gate, Sink};
 use std::alloc::Global;
 use std::thread::Threads;
-
-/// Dumps a file.
-fn dump<F: Files, S: Sink>(alloc: Global, name: &str, files: &mut F, out: &mut S) -> u8
-    ensures ends { DumpEnds S.written S.faults (F.contents files.old) (F.failed_calls files.old) (F.failed_calls files.new) name.now out.old out.new result }
-    ensures contents { F.contents files.new ≡ F.contents files.old }
-    ensures never_falls { S.faults out.old ≤ S.faults out.new }
-{
-    match reply_to_dump(alloc, name, files) {
-        Ok(reply) => print(out, reply.text.as_slice(), reply.status),
-        Err(NoMemory) => status::NO_MEMORY,
-    }
-}
 
 /// Runs the command that the words are, over these files and this output, and answers the status that the
 /// program ends with. `words` leaves out the program's name.
@@ -55,7 +42,10 @@ pub fn r2r<R: Threads + Sync, F: Files, S: Sink, G: Gate>(
     ensures never_falls { S.faults out.old ≤ S.faults out.new }
 {
     match Command::parse(words) {
-        Command::Usage => print(out, USAGE.as_bytes(), status::USAGE),
-        Command::Dump(name) => dump(alloc, name, files, out),
+        Command::Usage => {
+            print(out, USAGE.as_bytes());
+            status::USAGE
+        }
+        Command::Dump(name) => dump_file(alloc, name, files, out),
     }
 }

@@ -1,2 +1,3 @@
 pub mod NamedLemmas
 mod RealLemmas
+mod Written

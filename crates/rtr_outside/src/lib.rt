@@ -25,7 +25,7 @@ pub use mem_files::MemFiles;
 pub use mem_sink::MemSink;
 pub use real_files::RealFiles;
 pub use real_sink::RealSink;
-pub use sink::{Sink, SinkFailed};
+pub use sink::{Sink, SinkFailed, write_all};
 pub use sure::{SureFiles, SureSink};
 
 #[cfg(test)]

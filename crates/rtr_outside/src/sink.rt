@@ -1,7 +1,7 @@
 //! An output that takes bytes.
 
-ghost use Rattle.std.specs.Prelude.{◌≡◌, ◌≤◌, ◌<◌, ℕ, List, Option, length, take, IfOk, OnErr};
-ghost use Rattle.rtr_outside.specs.Sink.{Rose, Appends};
+ghost use Rattle.std.specs.Prelude.{◌≡◌, ◌≤◌, ◌<◌, ℕ, List, Option, length, take, IfOk, OnOk, OnErr};
+ghost use Rattle.rtr_outside.specs.Sink.{Rose, Appends, PrintsFront};
 
 use thiserror::Error;
 
@@ -29,4 +29,20 @@ pub trait Sink {
         ensures failed { OnErr result (Rose (faults self.old) (faults self.new)) }
         ensures err { OnErr result (written self.new ≡ written self.old) }
         ensures never_falls { faults self.old ≤ faults self.new };
+}
+
+/// Writes the whole text, in as many pieces as the sink takes. An `Err` comes only where the sink had a fault;
+/// then it has taken a front of the text, which may be empty.
+pub fn write_all<S: Sink>(out: &mut S, text: &[u8]) -> Result<(), SinkFailed>
+    ensures whole { OnOk result (Appends text.now (S.written out.old) (S.written out.new)) }
+    ensures front { OnErr result (PrintsFront S.written text.now out.old out.new) }
+    ensures failed { OnErr result (Rose (S.faults out.old) (S.faults out.new)) }
+    ensures never_falls { S.faults out.old ≤ S.faults out.new }
+{
+    let mut rest = text;
+    while !rest.is_empty() {
+        let taken = out.write(rest)?;
+        rest = rest.split_at(taken).1;
+    }
+    Ok(())
 }

@@ -305,3 +305,17 @@ unfolding fixup_at
 fixup_at-none bytes at never =
     none_found (fixup_in (drop at bytes)) (λ fixup rest e.
     let (s, parts, h) = fixup_sound (drop at bytes) fixup rest e in never fixup (at + length s) (s, rest, parts, h, refl))
+
+found_is : (o : Found Fixup) (fixup : Fixup) → option_map (λ found. found.0) o ≡ Some fixup → (rest : List ℕ) × ◌≡◌ {A = Found Fixup} o (Some (fixup, rest))
+found_is None fixup e = absurd (let x : ⊥ = cc in x)
+found_is (Some (x, rest)) fixup e =
+    let same : x ≡ fixup = cc in
+    (rest, let f : Fixup → Found Fixup = λ y. Some (y, rest) in ap f same)
+
+-- what is computed at a place has a spelling
+pub fixup_at-spelled : (bytes : List ℕ) (at : ℕ) (fixup : Fixup) → fixup_at bytes at ≡ Some fixup → (spelling : List ℕ) × IsFixup spelling fixup
+unfolding fixup_at
+fixup_at-spelled bytes at fixup e =
+    let (rest, is) = found_is (fixup_in (drop at bytes)) fixup e in
+    let (s, parts, h) = fixup_sound (drop at bytes) fixup rest is in
+    (s, h)

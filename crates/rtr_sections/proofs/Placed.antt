@@ -1,5 +1,5 @@
--- The first section that holds a range, and one of no bytes at that range's end.
-use Rattle.std.proofs.Common.{◌≡◌, ℕ, ◌+◌, ◌^◌, List, [], ◌∷◌, Option, Some, None, Bool, true, false, cond, is_some, refl, add-zero, arith}
+-- The first section that holds a range, one of no bytes at that range's end, and one within it.
+use Rattle.std.proofs.Common.{◌≡◌, ℕ, ◌+◌, ◌^◌, ◌≤◌, List, [], ◌∷◌, Option, Some, None, Bool, true, false, cond, is_some, refl, add-zero, arith}
 use Rattle.std.specs.Prelude.{find, nat_le}
 use Rattle.std.specs.Option.{option_map}
 use Rattle.std.proofs.lemmas.Bool.Decides.{nat_tests}
@@ -33,3 +33,20 @@ placed_if false c f g o p h k e = absurd (let x : ⊥ = cc in x)
 pub placed_end : (sections : List PeSection) (rva len : ℕ) → is_some (slice_of_rva sections rva len) ≡ true → is_some (slice_of_rva sections (rva + len) 0) ≡ true
 placed_end sections rva len h =
     placed_if (nat_le (rva + len) (2 ^ 32)) (nat_le (rva + len + 0) (2 ^ 32)) _ _ (find (has_range rva len) sections) (find (has_range (rva + len) 0) sections) (λ e. rw add-zero e) (found_end rva len sections) h
+
+-- the section that holds a range holds one within it
+holds_within : (rva len r l : ℕ) (s : PeSection) → rva ≤ r → r + l ≤ rva + len → has_range rva len s ≡ true → has_range r l s ≡ true
+holds_within rva len r l s low high h = grind (arith, nat_tests)
+
+found_within : (rva len r l : ℕ) (sections : List PeSection) → rva ≤ r → r + l ≤ rva + len → is_some (find (has_range rva len) sections) ≡ true → is_some (find (has_range r l) sections) ≡ true
+found_within rva len r l [] low high h = h
+found_within rva len r l (s ∷ sections) low high h =
+    some_if (has_range rva len s) (has_range r l s) s s (find (has_range rva len) sections) (find (has_range r l) sections) (holds_within rva len r l s low high) (found_within rva len r l sections low high) h
+
+below_too : (rva len r l : ℕ) → r + l ≤ rva + len → nat_le (rva + len) (2 ^ 32) ≡ true → nat_le (r + l) (2 ^ 32) ≡ true
+below_too rva len r l high h = grind (arith, nat_tests)
+
+-- where a range is in a section, so is one within it
+pub placed_within : (sections : List PeSection) (rva len r l : ℕ) → rva ≤ r → r + l ≤ rva + len → is_some (slice_of_rva sections rva len) ≡ true → is_some (slice_of_rva sections r l) ≡ true
+placed_within sections rva len r l low high h =
+    placed_if (nat_le (rva + len) (2 ^ 32)) (nat_le (r + l) (2 ^ 32)) _ _ (find (has_range rva len) sections) (find (has_range r l) sections) (λ e. below_too rva len r l high e) (found_within rva len r l sections low high) h

@@ -5,3 +5,7 @@ pub mod Imports
 pub mod Functions
 pub mod Entries
 pub mod Image
+pub mod Parts
+pub mod Plan
+pub mod Written
+pub mod PartPlaces

@@ -19,7 +19,7 @@ pub struct Function {
 }
 
 /// The bytes of an entry.
-const ENTRY_SIZE: u32 = 8;
+pub(crate) const ENTRY_SIZE: u32 = 8;
 
 impl Function {
     /// The entry at a place, where its unwind word is in a section of the file.
@@ -39,7 +39,7 @@ impl Function {
     }
 
     /// The RVA behind its code.
-    fn end(&self) -> u64
+    pub(crate) fn end(&self) -> u64
         ensures { result ≡ end_of self.now }
     {
         u64::from(self.begin) + u64::from(self.length)

@@ -38,14 +38,14 @@ pub struct RtrHeader {
 }
 
 /// Signature: "RTR" and a zero, read lowest first.
-const SIGNATURE: u32 = 0x0052_5452;
+pub(crate) const SIGNATURE: u32 = 0x0052_5452;
 /// The bytes of the header in front of its section records.
 const HEADER_SIZE: u32 = 16;
 /// The bytes of a section record.
 const RECORD_SIZE: u32 = 12;
 
 /// The identifier of this compiler's images.
-const IDENTIFIER: &[u8; 14] = b"r2r profile 1\0";
+pub(crate) const IDENTIFIER: &[u8; 14] = b"r2r profile 1\0";
 /// The machine of this compiler's images, IMAGE_FILE_MACHINE_ARM64.
 const MACHINE_ARM64: u16 = 0xAA64;
 

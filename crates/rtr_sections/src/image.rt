@@ -1,9 +1,10 @@
 //! The ReadyToRun part of an image, by its records.
 
-ghost use Rattle.std.specs.Prelude.{◌≡◌, ◌≤◌, ◌^◌, length, None, IfErr, IfOk, OnOk, is_some, true, false};
+ghost use Rattle.std.specs.Prelude.{◌≡◌, ◌≤◌, ◌^◌, length, None, All, IfErr, IfOk, OnOk, is_some, true, false};
 ghost use Rattle.rtr_bytes.specs.Checks.{first_fault, RefusedBy};
 ghost use Rattle.pe_image.specs.Headers.{headers_of, native_of};
 ghost use Rattle.pe_image.specs.Checks.{pe_checks};
+ghost use Rattle.fixup_sigs.specs.Shortest.{IsSpellable};
 ghost use Rattle.rtr_sections.specs.Header.{is_own, part_of, rtr_header_of};
 ghost use Rattle.rtr_sections.specs.Imports.{imports_in};
 ghost use Rattle.rtr_sections.specs.Image.{own_checks, own_image_of, foreign_image_of, image_of, rtr_checks};
@@ -113,6 +114,8 @@ pub fn read_rtr(
     ensures well_formed { OnOk result (first_fault (rtr_checks method_rows) bytes.now ≡ None) }
     ensures image { IfOk result (λ image. image ≡ image_of bytes.now) }
     ensures own { IfOk result (λ image. image.own ≡ is_own bytes.now) }
+    // Each slot's fixup has a signature that can be written.
+    ensures spellable { IfOk result (λ image. All (λ slot. IsSpellable slot.fixup) image.slots) }
 {
     let header = RtrHeader::read(alloc, pe, bytes)?;
     let imports = read_imports(alloc, pe, bytes, header.part(pe, bytes, IMPORT_SECTIONS))?;

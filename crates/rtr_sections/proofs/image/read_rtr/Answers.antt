@@ -1,11 +1,12 @@
 use Rattle.std.proofs.Common.{◌≡◌, ◌∙◌, Option, None, false, IfErr, OnOk, sym, ap, subst}
-use Rattle.std.proofs.lemmas.Result.{err_from_is_err_and}
+use Rattle.std.proofs.lemmas.Result.{err_from_is_err_and, IfOk-weaker}
 use Rattle.rtr_bytes.specs.declared.fault.Fault.{Fault}
 use Rattle.rtr_bytes.specs.declared.fault.Span.{Span}
 use Rattle.rtr_bytes.specs.Checks.{fault_or, RefusedBy}
 use Rattle.rtr_sections.specs.Header.{is_own, part_of}
 use Rattle.rtr_sections.specs.Imports.{unplaced_cells}
 use Rattle.rtr_sections.proofs.AllChecks.{refused_header, refused_imports, after_imports, none_foreign}
+use Rattle.rtr_sections.proofs.Spellable.{own_spellable}
 use Rattle.rtr_sections.proofs.image.read_rtr.Goals as goal
 
 pub returns-in_err-header-clause-malformed : goal.returns-in_err-header-clause-malformed
@@ -40,3 +41,7 @@ returns-clause-well_formed c =
     let placed : unplaced_cells bytes (part_of bytes 101) ≡ None = ap (unplaced_cells bytes) (sym c.part.ensures.part) ∙ c.in_ok-imports.ensures.ok in
     let foreign : is_own bytes ≡ false = sym c.is_own.ensures ∙ c.if-is_own.false in
     after_imports c.args.method_rows bytes c.requires.native c.in_ok-header.ensures.well_formed placed ∙ none_foreign c.args.method_rows bytes c.requires.native foreign
+
+pub returns-then-is_own-clause-spellable : goal.returns-then-is_own-clause-spellable
+returns-then-is_own-clause-spellable c =
+    IfOk-weaker c.read_own.result _ _ (λ image e. own_spellable c.args.bytes.now image e) c.read_own.ensures.image

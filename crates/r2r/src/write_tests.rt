@@ -1,0 +1,354 @@
+//! Images that are written from plans, laid into a PE file behind the least one, and dumped.
+
+ghost use Rattle.std.specs.Prelude.{◌≡◌, ◌≤◌, ◌^◌, length, None};
+ghost use Rattle.rtr_bytes.specs.Checks.{first_fault};
+ghost use Rattle.pe_image.specs.Checks.{pe_checks};
+ghost use Rattle.pe_image.specs.Headers.{headers_of};
+
+use crate::tests::{LEAST, expect, file_of};
+use fixup_sigs::{FieldToken, Fixup, SigType};
+use native_format::SlotRef;
+use pe_image::{Pe, can_write_pe, dat_rva, write_pe};
+use rtr_bytes::Sequence;
+use rtr_sections::{
+    EntryPoint, Function, Image, ImportSection, RtrHeader, RtrSection, Slot, Written,
+    can_write_rtr, write_rtr,
+};
+use std::alloc::{AllocError, Global};
+use std::test::Fail;
+
+/// One eager section with a slot, no function and no entry.
+const WRITTEN: &str =
+    "@0 4d5a @60 400000005045000064aa03 @84 f00022200b020e @97 02 @110 02000000008001 @125 020000060002 @136 060002
+@146 02000002 @156 03006081000010 @169 10 @178 10 @185 10 @196 10 @312 7d00010048 @328
+2e746578740000000002000000100000000200000002 @368 2e72327264617400c5 @382 0100000200000004 @404
+400000c02e723272636f64 @422 02 @429 06 @444 20000060 @512 48 @520 481000001400000001 @1032 5254520005 @1044
+05000000640000006c0001000e000000650000005400010014000000660000006c0001 @1084 670000007c000100010000006a @1110
+01000800000001000008680001 @1128 7a0001007232722070726f66696c652031001a080448 @1157 481000001400000004 @1213
+080001004c";
+
+const WRITTEN_TEXT: &str = "file T 1536
+machine aa64 magic 020b
+.text rva 00001000 size 00000200 file 00000200 raw 00000200
+.r2rdat rva 00010000 size 000000c5 file 00000400 raw 00000200
+.r2rcod rva 00020000 size 00000000 file 00000600 raw 00000000
+cli flags 00000004 entry 00000000
+native own 5.0 flags 00000000 sections 5
+rtr 100 rva 0001006c size 0000000e
+rtr 101 rva 00010054 size 00000014
+rtr 102 rva 0001006c size 00000000
+rtr 103 rva 0001007c size 00000001
+rtr 106 rva 00000000 size 00000000
+import 0 rva 00010000 size 00000008 flags 0001 type 0 entry 8 slots 1
+slot 0 1a08
+";
+
+/// No import section, and an entry whose array is the one-element array `0c 04000000 02020202 0c`.
+const WRITTEN_ARRAY: &str =
+    "@0 4d5a @60 400000005045000064aa03 @84 f00022200b020e00000200000002 @110 02000000008001 @125 020000060002 @136
+060002 @144 040002000002 @156 03006081000010 @169 10 @178 10 @185 10 @196 10 @312 9400010048 @328
+2e746578740000000002000000100000000200000002 @368 2e72327264617400dc @382 0100000200000004 @404
+400000c02e723272636f640004 @422 0200000200000006 @444 20000060 @512 48 @520 481000001400000001 @1024 5254520005
+@1036 05000000640000007c0001000e000000650000004c0001 @1064 660000004c00010020000000670000008a0001000a0000006a
+@1102 02006c0001000000020070000100000002007400010000000200780001 @1144
+040000007232722070726f66696c652031000c04000000020202020c48 @1180 481000001400000004 @1238 01004c @1536 c0035fd6";
+
+const WRITTEN_ARRAY_TEXT: &str = "file T 2048
+machine aa64 magic 020b
+.text rva 00001000 size 00000200 file 00000200 raw 00000200
+.r2rdat rva 00010000 size 000000dc file 00000400 raw 00000200
+.r2rcod rva 00020000 size 00000004 file 00000600 raw 00000200
+cli flags 00000004 entry 00000000
+native own 5.0 flags 00000000 sections 5
+rtr 100 rva 0001007c size 0000000e
+rtr 101 rva 0001004c size 00000000
+rtr 102 rva 0001004c size 00000020
+rtr 103 rva 0001008a size 0000000a
+rtr 106 rva 00000000 size 00000000
+entry 06000001 function 3 begin 00020000 length 4 fixups
+";
+
+/// Three import sections, the first eager; entries with and without lists, which share slots, in three blocks of the array.
+const WRITTEN_WHOLE: &str =
+    "@0 4d5a @60 400000005045000064aa03 @84 f00022200b020e00000200000002 @110 02000000008001 @125 020000060002 @136
+060002 @144 180002000002 @156 03006081000010 @169 10 @178 10 @185 10 @196 10 @312 7301010048 @328
+2e746578740000000002000000100000000200000002 @368 2e72327264617400bb01000000000100000200000004 @404
+400000c02e723272636f640018 @422 0200000200000006 @444 20000060 @512 48 @520 481000001400000001 @1040
+8877665544332211 @1080 0c0002 @1088 100002 @1096 5254520005 @1108
+0500000064000000240101000e00000065000000940001003c00000066000000f400010020000000670000004a010100
+290000006a0000001000020008 @1174 01001800000001000008d00001 @1192 1800010020 @1203 08dc0001 @1212 3800010010
+@1223 08ec0001 @1232
+320101003401010036010100390101003b0101003e010100420101004501010047010100000002001401010004000200
+180101000c0002001c0101000c000200200101000400000008 @1312
+040000007232722070726f66696c652031001a081a221a82001b012700022b1010051c1205140317812c89020c000000
+1b0000002000000002023e16000a010200021a010311000202020c08020c0c0c0a200048 @1403 481000001400000004 @1459
+480001004c @1537 0102030405060708090a0b0c0d0e0f1011121314151617";
+
+const WRITTEN_WHOLE_TEXT: &str = "file T 2048
+machine aa64 magic 020b
+.text rva 00001000 size 00000200 file 00000200 raw 00000200
+.r2rdat rva 00010000 size 000001bb file 00000400 raw 00000200
+.r2rcod rva 00020000 size 00000018 file 00000600 raw 00000200
+cli flags 00000004 entry 00000000
+native own 5.0 flags 00000000 sections 5
+rtr 100 rva 00010124 size 0000000e
+rtr 101 rva 00010094 size 0000003c
+rtr 102 rva 000100f4 size 00000020
+rtr 103 rva 0001014a size 00000029
+rtr 106 rva 00020010 size 00000008
+import 0 rva 00010000 size 00000018 flags 0001 type 0 entry 8 slots 3
+slot 0 1a08
+slot 1 1a22
+slot 2 1a8200
+import 1 rva 00010018 size 00000020 flags 0000 type 0 entry 8 slots 4
+slot 0 1b01
+slot 1 270002
+slot 2 2b101005
+slot 3 1c1205
+import 2 rva 00010038 size 00000010 flags 0000 type 0 entry 8 slots 2
+slot 0 1403
+slot 1 17812c
+entry 06000001 function 0 begin 00020000 length 4 fixups
+entry 06000002 function 1 begin 00020004 length 8 fixups 1.0 1.2
+entry 06000003 function 3 begin 0002000c length 4 fixups 1.0 1.3 2.1
+entry 06000012 function 2 begin 0002000c length 0 fixups
+entry 06000028 function 1 begin 00020004 length 8 fixups 0.2
+";
+
+/// A section record with a range that is not asked for.
+fn section(kind: u32) -> RtrSection {
+    RtrSection {
+        kind,
+        rva: 1,
+        size: 2,
+    }
+}
+
+/// A header with the sections that are written, of which the thunks have a range.
+fn header(alloc: Global, thunks: (u32, u32)) -> Result<RtrHeader, AllocError> {
+    let thunks = RtrSection {
+        kind: 106,
+        rva: thunks.0,
+        size: thunks.1,
+    };
+    let sections = [
+        section(100),
+        section(101),
+        section(102),
+        section(103),
+        thunks,
+    ];
+    Ok(RtrHeader {
+        at: 0,
+        major: 5,
+        minor: 0,
+        flags: 0,
+        sections: Sequence::from_vec(sections.to_vec(alloc)?),
+    })
+}
+
+/// An import section of some bytes of cells.
+fn import(size: u32, flags: u16) -> ImportSection {
+    ImportSection {
+        rva: 3,
+        size,
+        flags,
+        kind: 0,
+        entry_size: 8,
+        signatures: 4,
+        auxiliary: 0,
+    }
+}
+
+fn slot(fixup: Fixup, word: u64) -> Slot {
+    Slot { fixup, word }
+}
+
+fn entry(
+    alloc: Global,
+    row: u32,
+    function: u32,
+    slots: &[(u32, u32)],
+) -> Result<EntryPoint, AllocError> {
+    let mut fixups = Vec::new(alloc);
+    for (section, slot) in slots {
+        fixups.push(SlotRef {
+            section: *section,
+            slot: *slot,
+        })?;
+    }
+    Ok(EntryPoint {
+        row,
+        function,
+        fixups: Sequence::from_vec(fixups),
+    })
+}
+
+/// The functions that begin at some RVAs and have some lengths.
+fn functions(alloc: Global, ranges: &[(u32, u32)]) -> Result<Sequence<Function>, AllocError> {
+    let mut functions = Vec::new(alloc);
+    for (begin, length) in ranges {
+        functions.push(Function {
+            begin: *begin,
+            length: *length,
+        })?;
+    }
+    Ok(Sequence::from_vec(functions))
+}
+
+/// What `.r2rdat` has: the part, and behind it the input's CLI header, for an image that isn't of CIL alone, with the
+/// part's header.
+fn dat(alloc: Global, bytes: &[u8], input: &Pe, written: &Written) -> Result<Vec<u8>, Fail> {
+    let start = input.cli().start as usize;
+    let cli = bytes.get(start..).ok_or("it is in the file")?;
+    let flags = input.cli_flags() & !1 | 4;
+    let mut dat = Vec::new(alloc);
+    dat.extend_from_slice(&written.bytes)?;
+    dat.extend_from_slice(cli.get(..16).ok_or("it has 72 bytes")?)?;
+    dat.extend_from_slice(&flags.to_le_bytes())?;
+    dat.extend_from_slice(cli.get(20..64).ok_or("it has 72 bytes")?)?;
+    dat.extend_from_slice(&written.header.start.to_le_bytes())?;
+    dat.extend_from_slice(&written.header.len.to_le_bytes())?;
+    Ok(dat)
+}
+
+/// The image of a plan and some code behind an input.
+fn image_behind(
+    alloc: Global,
+    input: &Pe,
+    bytes: &[u8],
+    plan: &Image,
+    cod: &[u8],
+) -> Result<Vec<u8>, Fail>
+    requires small { length bytes.now ≤ 2 ^ 31 }
+    requires read { input.now ≡ headers_of bytes.now }
+    requires well_formed { first_fault pe_checks bytes.now ≡ None }
+{
+    let at = u32::try_from(dat_rva(input))?;
+    if !can_write_rtr(plan, at) {
+        return Err("the plan can be written")?;
+    }
+    let written = write_rtr(alloc, plan, at)?;
+    let dat = dat(alloc, bytes, input, &written)?;
+    let cli_at = at.saturating_add(written.bytes.len() as u32);
+    if !can_write_pe(input, &dat, cod, cli_at) {
+        return Err("the file can be written")?;
+    }
+    Ok(write_pe(alloc, input, bytes, &dat, cod, cli_at)?)
+}
+
+/// The image of a plan and some code behind the least file.
+fn image(alloc: Global, plan: &Image, cod: &[u8]) -> Result<Vec<u8>, Fail> {
+    let least = file_of(alloc, 1024, &[LEAST])?;
+    let bytes = least.as_slice();
+    if bytes.len() > 1 << 31 {
+        return Err("it has 1,024 bytes")?;
+    }
+    match Pe::read(alloc, bytes) {
+        Ok(input) => image_behind(alloc, &input, bytes, plan, cod),
+        Err(_) => Err("it is well formed")?,
+    }
+}
+
+#[test]
+fn one_slot(rt: HostRuntime) -> Result<(), Fail> {
+    let alloc = rt.alloc();
+    let helper = slot(Fixup::Helper { number: 8 }, 0);
+    let plan = Image {
+        header: header(alloc, (0, 0))?,
+        imports: Sequence::from_vec([import(8, 1)].to_vec(alloc)?),
+        slots: Sequence::from_vec([helper].to_vec(alloc)?),
+        functions: functions(alloc, &[])?,
+        entries: Sequence::from_vec(Vec::new(alloc)),
+        own: true,
+    };
+    let out = image(alloc, &plan, &[])?;
+    assert_eq!(rt;
+        out.as_slice(),
+        file_of(alloc, 1536, &[WRITTEN])?.as_slice()
+    );
+    expect(&rt, alloc, "dump T", out, 0, WRITTEN_TEXT)
+}
+
+#[test]
+fn one_element(rt: HostRuntime) -> Result<(), Fail> {
+    let alloc = rt.alloc();
+    let mut entries = Vec::new(alloc);
+    entries.push(entry(alloc, 1, 3, &[])?)?;
+    let code = 0x20000;
+    let plan = Image {
+        header: header(alloc, (0, 0))?,
+        imports: Sequence::from_vec(Vec::new(alloc)),
+        slots: Sequence::from_vec(Vec::new(alloc)),
+        functions: functions(alloc, &[(code, 0), (code, 0), (code, 0), (code, 4)])?,
+        entries: Sequence::from_vec(entries),
+        own: true,
+    };
+    let out = image(alloc, &plan, &[0xC0, 0x03, 0x5F, 0xD6])?;
+    let array = [0x0C, 4, 0, 0, 0, 2, 2, 2, 2, 0x0C].as_slice();
+    assert_eq!(rt; out.get(1162..1172), Some(array));
+    assert_eq!(rt;
+        out.as_slice(),
+        file_of(alloc, 2048, &[WRITTEN_ARRAY])?.as_slice()
+    );
+    expect(&rt, alloc, "dump T", out, 0, WRITTEN_ARRAY_TEXT)
+}
+
+/// The slots of three sections: three, four and two.
+fn slots(alloc: Global) -> Result<Sequence<Slot>, AllocError> {
+    let second = FieldToken {
+        member_ref: false,
+        row: 2,
+    };
+    let field = FieldToken {
+        member_ref: true,
+        row: 5,
+    };
+    let slots = [
+        slot(Fixup::Helper { number: 8 }, 0),
+        slot(Fixup::Helper { number: 0x22 }, 0),
+        slot(Fixup::Helper { number: 0x200 }, 0x1122_3344_5566_7788),
+        slot(Fixup::StringHandle { at: 1 }, 0),
+        slot(Fixup::FieldOffset { field: second }, 0),
+        slot(Fixup::CheckFieldOffset { offset: 16, field }, 0),
+        slot(
+            Fixup::NewObject {
+                of: SigType::Class(5),
+            },
+            0,
+        ),
+        slot(Fixup::MethodEntryDefToken { row: 3 }, 0x2000C),
+        slot(Fixup::VirtualEntryDefToken { row: 300 }, 0x20010),
+    ];
+    Ok(Sequence::from_vec(slots.to_vec(alloc)?))
+}
+
+#[test]
+fn three_sections(rt: HostRuntime) -> Result<(), Fail> {
+    let alloc = rt.alloc();
+    let mut entries = Vec::new(alloc);
+    entries.push(entry(alloc, 1, 0, &[])?)?;
+    entries.push(entry(alloc, 2, 1, &[(1, 0), (1, 2)])?)?;
+    entries.push(entry(alloc, 3, 3, &[(1, 0), (1, 3), (2, 1)])?)?;
+    entries.push(entry(alloc, 18, 2, &[])?)?;
+    entries.push(entry(alloc, 40, 1, &[(0, 2)])?)?;
+    let ranges = [(0x20000, 4), (0x20004, 8), (0x2000C, 0), (0x2000C, 4)];
+    let plan = Image {
+        header: header(alloc, (0x20010, 8))?,
+        imports: Sequence::from_vec([import(24, 1), import(32, 0), import(16, 0)].to_vec(alloc)?),
+        slots: slots(alloc)?,
+        functions: functions(alloc, &ranges)?,
+        entries: Sequence::from_vec(entries),
+        own: true,
+    };
+    let mut cod = Vec::new(alloc);
+    for byte in 0..24u8 {
+        cod.push(byte)?;
+    }
+    let out = image(alloc, &plan, &cod)?;
+    assert_eq!(rt;
+        out.as_slice(),
+        file_of(alloc, 2048, &[WRITTEN_WHOLE])?.as_slice()
+    );
+    expect(&rt, alloc, "dump T", out, 0, WRITTEN_WHOLE_TEXT)
+}

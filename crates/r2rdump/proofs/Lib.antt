@@ -1,0 +1,5 @@
+pub mod Trimmed
+pub mod Numbered
+pub mod NoNative
+pub mod Parts
+pub mod SlotsOfSections

@@ -1,0 +1,136 @@
+//! The whole text of an image of this compiler and of a foreign one, and sinks that fail.
+
+use super::*;
+use rtr_bytes::Fault;
+use rtr_outside::MemSink;
+use std::alloc::Global;
+use std::process::Abort;
+use std::test::Fail;
+
+/// A file of 1,024 bytes, zeros but for these: a place, and from there on bytes in hexadecimal. PE32+ for A64, one
+/// section, a CLI header and 20 bytes of metadata.
+const HEADERS: &str = "@0 4d5a @60 40 @64 50450000 64aa01 @84 f000 @88 0b02 @196 10 @312 0010000048
+@328 2e74657874 @336 0002 @340 0010 @344 0002 @348 0002 @512 48 @520 4810000014 @528 01";
+
+/// The ReadyToRun part: two import sections with two slots and one, two functions, and two entries, of which the
+/// second has a list of a slot of each section.
+const IMAGE: &str = "@576 801000004c @640 52545200 05000000 00000000 05000000
+@656 64000000 d0100000 0e000000 65000000 e0100000 28000000 66000000 38110000 10000000
+@692 67000000 48110000 0c000000 6a000000 6c110000 04000000 @720 7232722070726f66696c65203100
+@736 18110000 10000000 01000008 08110000 00000000 28110000 08000000 00000008 10110000 00000000
+@776 30110000 32110000 35110000 @816 1a08 1c1205 1403
+@824 60110000 58110000 68110000 5c110000 @840 100102020216000a10100000 @856 08000000 04000000";
+
+const TEXT: &str = "file T 1024
+machine aa64 magic 020b
+.text rva 00001000 size 00000200 file 00000200 raw 00000200
+cli flags 00000001 entry 00000000
+native own 5.0 flags 00000000 sections 5
+rtr 100 rva 000010d0 size 0000000e
+rtr 101 rva 000010e0 size 00000028
+rtr 102 rva 00001138 size 00000010
+rtr 103 rva 00001148 size 0000000c
+rtr 106 rva 0000116c size 00000004
+import 0 rva 00001118 size 00000010 flags 0001 type 0 entry 8 slots 2
+slot 0 1a08
+slot 1 1c1205
+import 1 rva 00001128 size 00000008 flags 0000 type 0 entry 8 slots 1
+slot 0 1403
+entry 06000001 function 0 begin 00001160 length 8 fixups
+entry 06000002 function 1 begin 00001168 length 4 fixups 0.1 1.0
+";
+
+/// Another identifier, and cells of 4 bytes in one record and of no size in the other.
+const FOREIGN: &str = "@720 52 @744 03020104 @764 00000300";
+
+const FOREIGN_TEXT: &str = "file T 1024
+machine aa64 magic 020b
+.text rva 00001000 size 00000200 file 00000200 raw 00000200
+cli flags 00000001 entry 00000000
+native foreign 5.0 flags 00000000 sections 5
+rtr 100 rva 000010d0 size 0000000e
+rtr 101 rva 000010e0 size 00000028
+rtr 102 rva 00001138 size 00000010
+rtr 103 rva 00001148 size 0000000c
+rtr 106 rva 0000116c size 00000004
+import 0 rva 00001118 size 00000010 flags 0203 type 1 entry 4 slots 4
+import 1 rva 00001128 size 00000008 flags 0000 type 3 entry 0 slots 0
+";
+
+/// The file with some bytes written over it.
+fn file_with(alloc: Global, changes: &str) -> Result<Vec<u8>, Fail> {
+    let mut bytes = vec![in alloc; 0u8; 1024]?;
+    for piece in [HEADERS, IMAGE, changes] {
+        let mut at = 0;
+        for word in piece.split_whitespace() {
+            match word.strip_prefix('@') {
+                Some(place) => at = place.parse::<usize>()?,
+                None => at = put_hex(alloc, &mut bytes, at, word)?,
+            }
+        }
+    }
+    Ok(bytes)
+}
+
+/// Writes bytes from a place on, and answers the place behind them.
+fn put_hex(alloc: Global, bytes: &mut [u8], mut at: usize, word: &str) -> Result<usize, Fail> {
+    for byte in &hex::decode(alloc, word)? {
+        if let Some(old) = bytes.get_mut(at) {
+            *old = *byte;
+        }
+        at = at.saturating_add(1);
+    }
+    Ok(at)
+}
+
+/// Dumps the file with some bytes written over it to a sink with room for so many, and expects an answer and what
+/// was written.
+fn expect<R: Abort>(
+    rt: &R,
+    alloc: Global,
+    changes: &str,
+    room: u32,
+    answer: Result<(), DumpRefusal>,
+    text: &str,
+) -> Result<(), Fail> {
+    let bytes = file_with(alloc, changes)?;
+    let mut out = MemSink::new(alloc, room, Vec::new(alloc))?;
+    if bytes.len() <= 1 << 31 {
+        let told = dump_text(alloc, "T", &bytes, &mut out);
+        assert!(rt; told == answer, "{changes}");
+    }
+    assert_eq!(rt; out.bytes(), text.as_bytes(), "{changes}");
+    Ok(())
+}
+
+#[test]
+fn whole_texts(rt: HostRuntime) -> Result<(), Fail> {
+    let alloc = rt.alloc();
+    expect(&rt, alloc, "", 2_000, Ok(()), TEXT)?;
+    expect(&rt, alloc, FOREIGN, 2_000, Ok(()), FOREIGN_TEXT)
+}
+
+#[test]
+fn refusals(rt: HostRuntime) -> Result<(), Fail> {
+    let alloc = rt.alloc();
+    expect(
+        &rt,
+        alloc,
+        "",
+        10,
+        Err(DumpRefusal::SinkFailed),
+        "file T 102",
+    )?;
+    let fault = Fault {
+        check: 61,
+        place: 776,
+    };
+    expect(
+        &rt,
+        alloc,
+        "@816 13",
+        2_000,
+        Err(DumpRefusal::Malformed(fault)),
+        "",
+    )
+}

@@ -1,0 +1,224 @@
+//! Whether the records of a plan can be written.
+
+ghost use Rattle.std.specs.Prelude.{◌≡◌, ℕ, ◌+◌, ◌*◌, ◌/◌, ◌<◌, ◌≤◌, ◌^◌, ◌↔◌, [], ◌∷◌, length, map, All, IsTrue, MatchOption, sum_by};
+ghost use Rattle.native_format.specs.Nibbles.{AscendFrom, Precedes};
+ghost use Rattle.fixup_sigs.specs.Shortest.{IsSpellable};
+ghost use Rattle.rtr_sections.specs.Imports.{slot_count};
+ghost use Rattle.rtr_sections.specs.Parts.{entry_bound, length_bound};
+ghost use Rattle.rtr_sections.specs.Plan.{AreInOrder, HasWrittenForm, IsLinkedIn, IsPlan, IsShort, IsWellPlanned, Names, RowsAscend, SlotsAscend};
+
+use crate::entries::EntryPoint;
+use crate::entry_writer::highest_row;
+use crate::functions::Function;
+use crate::header::RtrHeader;
+use crate::image::Image;
+use crate::imports::ImportSection;
+use crate::slots::Slot;
+use native_format::SlotRef;
+
+impl RtrHeader {
+    /// Whether it is of version 5.0, with the sections that this compiler writes.
+    fn is_written(&self) -> bool
+        ensures { IsTrue result ↔ ((self.now.major ≡ 5) × (self.now.minor ≡ 0)
+            × (map (λ s. s.kind) self.now.sections ≡ 100 ∷ 101 ∷ 102 ∷ 103 ∷ 106 ∷ [])) }
+    {
+        match self.sections.as_slice() {
+            [a, b, c, d, e] => {
+                self.major == 5
+                    && self.minor == 0
+                    && [a.kind, b.kind, c.kind, d.kind, e.kind] == [100, 101, 102, 103, 106]
+            }
+            _ => false,
+        }
+    }
+}
+
+impl ImportSection {
+    /// Whether it has whole cells of 8 bytes, and no auxiliary data.
+    fn has_written_form(self) -> bool
+        ensures form { IsTrue result ↔ HasWrittenForm self }
+        ensures fits { self.size < 2 ^ 32 }
+    {
+        self.kind == 0 && self.entry_size == 8 && self.size % 8 == 0 && self.auxiliary == 0
+    }
+}
+
+/// Whether import records have the form that this compiler writes.
+fn have_written_form(imports: &[ImportSection]) -> bool
+    ensures form { IsTrue result ↔ All HasWrittenForm imports.now }
+    ensures sizes { IsTrue result → All (λ i. i.size < 2 ^ 32) imports.now }
+{
+    for import in imports {
+        if !import.has_written_form() {
+            return false;
+        }
+    }
+    true
+}
+
+/// Whether import records have so many slots together.
+fn have_slots(imports: &[ImportSection], slots: usize) -> bool
+    ensures { IsTrue result ↔ (slots ≡ sum_by slot_count imports.now) }
+{
+    let mut left = slots;
+    for import in imports {
+        let count = import.size as usize / 8;
+        if left < count {
+            return false;
+        }
+        left -= count;
+    }
+    left == 0
+}
+
+/// Whether the fixup of each slot has a signature.
+fn are_spellable(slots: &[Slot]) -> bool
+    ensures { IsTrue result ↔ All (λ slot. IsSpellable slot.fixup) slots.now }
+{
+    slots.iter().all(|slot| slot.fixup.is_spellable())
+}
+
+/// Whether functions are of whole instructions, each behind the code of the one before.
+fn are_in_order(functions: &[Function]) -> bool
+    ensures { IsTrue result ↔ AreInOrder 0 functions.now }
+{
+    let mut low = 0;
+    for function in functions {
+        if u64::from(function.begin) < low || function.begin % 4 != 0 || function.length % 4 != 0 {
+            return false;
+        }
+        low = function.end();
+    }
+    true
+}
+
+/// Whether the entries' rows ascend from 1 on.
+fn rows_ascend(entries: &[EntryPoint]) -> bool
+    ensures { IsTrue result ↔ RowsAscend 1 entries.now }
+{
+    let mut last = 0;
+    for entry in entries {
+        if entry.row <= last {
+            return false;
+        }
+        last = entry.row;
+    }
+    true
+}
+
+/// Whether one slot stands before another, by section and then by slot.
+fn precedes(last: SlotRef, next: SlotRef) -> bool
+    ensures { IsTrue result ↔ Precedes last next }
+{
+    last.section < next.section || last.section == next.section && last.slot < next.slot
+}
+
+/// Whether slots ascend strictly.
+fn slots_ascend(slots: &[SlotRef]) -> bool
+    ensures { IsTrue result ↔ SlotsAscend slots.now }
+{
+    let [first, others @ ..] = slots else {
+        return true;
+    };
+    let mut last = *first;
+    for slot in others {
+        if !precedes(last, *slot) {
+            return false;
+        }
+        last = *slot;
+    }
+    true
+}
+
+/// Whether a slot exists.
+fn slot_exists(imports: &[ImportSection], slot: SlotRef) -> bool
+    ensures { IsTrue result ↔ Names imports.now slot.section slot.slot }
+{
+    let section = slot.section as usize;
+    section < imports.len() && slot.slot < imports[section].size / 8
+}
+
+/// Whether slots exist.
+fn slots_exist(imports: &[ImportSection], slots: &[SlotRef]) -> bool
+    ensures { IsTrue result ↔ All (λ slot. Names imports.now slot.section slot.slot) slots.now }
+{
+    slots.iter().all(|slot| slot_exists(imports, *slot))
+}
+
+impl EntryPoint {
+    /// Whether it names a function that exists, and slots that exist, ascending strictly.
+    fn is_linked_in(&self, plan: &Image) -> bool
+        ensures { IsTrue result ↔ IsLinkedIn plan.now self.now }
+    {
+        let slots = self.fixups.as_slice();
+        (self.function as usize) < plan.functions.as_slice().len()
+            && slots_ascend(slots)
+            && slots_exist(plan.imports.as_slice(), slots)
+    }
+}
+
+/// Whether each entry of a plan names what exists.
+fn are_linked(plan: &Image) -> bool
+    ensures { IsTrue result ↔ All (IsLinkedIn plan.now) plan.now.entries }
+{
+    plan.entries
+        .as_slice()
+        .iter()
+        .all(|entry| entry.is_linked_in(plan))
+}
+
+/// What is left of some bytes behind so many things of one size, none where they don't fit.
+fn room_behind(room: u64, count: u64, size: u64) -> Option<u64>
+    ensures { MatchOption result (room < count * size) (λ left. left + count * size ≡ room) }
+{
+    room.checked_sub(count.checked_mul(size)?)
+}
+
+/// What is left of some bytes behind entries, none where they may not fit.
+fn room_behind_entries(room: u64, entries: &[EntryPoint]) -> Option<u64>
+    ensures { MatchOption result (room < sum_by entry_bound entries.now) (λ left. left + sum_by entry_bound entries.now ≡ room) }
+{
+    let mut left = room;
+    for entry in entries {
+        left = room_behind(left, entry.fixups.as_slice().len() as u64, 17)?.checked_sub(27)?;
+    }
+    Some(left)
+}
+
+/// What is left of 2^24 - 1 bytes behind a plan's part, none where it may not fit.
+fn room_left(plan: &Image) -> Option<u64>
+    ensures { MatchOption result (2 ^ 24 ≤ length_bound plan.now) (λ _. length_bound plan.now < 2 ^ 24) }
+{
+    let entries = plan.entries.as_slice();
+    let blocks = (u64::from(highest_row(entries)) + 15) / 16;
+    let room = room_behind((1 << 24) - 1 - 95, plan.slots.as_slice().len() as u64, 22)?;
+    let room = room_behind(room, plan.imports.as_slice().len() as u64, 20)?;
+    let room = room_behind(room, plan.functions.as_slice().len() as u64, 12)?;
+    let room = room_behind(room, blocks, 5)?;
+    room_behind_entries(room, entries)
+}
+
+/// Whether the records of a plan are in themselves as `write_rtr` needs them.
+fn is_well_planned(plan: &Image) -> bool
+    ensures planned { IsTrue result ↔ IsWellPlanned plan.now }
+    ensures sizes { IsTrue result → All (λ i. i.size < 2 ^ 32) plan.now.imports }
+{
+    let imports = plan.imports.as_slice();
+    let slots = plan.slots.as_slice();
+    plan.header.is_written()
+        && have_written_form(imports)
+        && have_slots(imports, slots.len())
+        && are_spellable(slots)
+        && are_in_order(plan.functions.as_slice())
+        && rows_ascend(plan.entries.as_slice())
+        && are_linked(plan)
+}
+
+/// Whether a plan can be written for an RVA: its records are as [`write_rtr`](crate::write_rtr) needs them, its bytes
+/// are surely below 2^24, and the RVA is at most 2^31. It takes no memory.
+pub fn can_write_rtr(plan: &Image, at: u32) -> bool
+    ensures planned { IsTrue result ↔ (IsWellPlanned plan.now × IsShort plan.now at) }
+    ensures plan { IsTrue result → IsPlan plan.now at }
+{
+    at <= 1 << 31 && is_well_planned(plan) && room_left(plan).is_some()
+}
