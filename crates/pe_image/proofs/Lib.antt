@@ -10,3 +10,5 @@ mod InputLemmas
 mod FileLemmas
 mod RangeLemmas
 mod Promises
+mod StairLemmas
+mod FinderLemmas

@@ -5,13 +5,13 @@ use Rattle.pe_image.specs.declared.section.PeSection.{PeSection}
 use Rattle.pe_image.specs.declared.values.HeaderValues.{HeaderValues}
 use Rattle.pe_image.specs.Headers.{sections_of}
 use Rattle.pe_image.specs.Places.{dat_rva, cod_rva, highest_end, dat_section, cod_section, placed_from, headers_end, all_sections, end_from, raw_start, written_sections, written_length, length_bound, AreLaid}
-use Rattle.pe_image.specs.Written.{IsWritable, header_values, StandsIn, header_fields, KeepsRanges, FindsPart, HasCliHeader, FailsLate, IsWellFormedWith}
+use Rattle.pe_image.specs.Written.{IsWritable, header_values, StandsIn, header_fields, KeepsRanges, KeepsRaw, FindsPart, HasCliHeader, FailsLate, IsWellFormedWith}
 use Rattle.pe_image.specs.Pieces.{IsInFile, raw_parts, file_of}
 use Rattle.std.proofs.lemmas.List.Elements.{All-nil, All-cons}
 use Rattle.pe_image.proofs.PlacesLemmas.{aligned-65536}
 use Rattle.pe_image.proofs.InputLemmas.{AreBytes, IsInput, AllInFile, all_whole}
 use Rattle.pe_image.proofs.FileLemmas.{Parts, the_file, end_below, values_in_range, file_length, file_fields, file_sections, file_laid}
-use Rattle.pe_image.proofs.RangeLemmas.{file_keeps, file_dat, file_cod, file_cli_place, file_cli, file_late, file_well_formed}
+use Rattle.pe_image.proofs.RangeLemmas.{file_keeps, file_raw, file_dat, file_cod, file_cli_place, file_cli, file_late, file_well_formed}
 
 pub record IsWritten (sections : List PeSection) (bytes dat cod : List ℕ) (cli : ℕ) (out : List ℕ) : Type 0 where
   pub headers : All (StandsIn out) (header_fields (header_values sections bytes (length dat) (length cod) cli))
@@ -19,6 +19,7 @@ pub record IsWritten (sections : List PeSection) (bytes dat cod : List ℕ) (cli
   pub laid : AreLaid (headers_end (length sections + 2)) (sections_of out) (length out)
   pub len : length out ≡ written_length sections (length dat) (length cod)
   pub bounded : length out ≤ length_bound sections (length dat) (length cod)
+  pub raw : KeepsRaw sections bytes (sections_of out) out
   pub kept : KeepsRanges sections bytes (sections_of out) out
   pub dat_found : FindsPart (sections_of out) out (dat_rva sections) dat
   pub cod_found : FindsPart (sections_of out) out (cod_rva sections (length dat)) cod
@@ -45,6 +46,7 @@ the_file_is sections bytes dat cod cli p = record {
   laid = file_laid sections bytes dat cod cli p;
   len = file_length sections bytes dat cod cli p;
   bounded = omega (arith, file_length sections bytes dat cod cli p, end_below sections (length dat) (length cod));
+  raw = file_raw sections bytes dat cod cli p;
   kept = file_keeps sections bytes dat cod cli p;
   dat_found = file_dat sections bytes dat cod cli p;
   cod_found = file_cod sections bytes dat cod cli p;

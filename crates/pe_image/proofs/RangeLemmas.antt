@@ -5,6 +5,7 @@ use Rattle.std.specs.List.{AllZip}
 use Rattle.std.specs.Option.{option_map}
 use Rattle.std.proofs.lemmas.Bool.{lt-leb, and_right}
 use Rattle.std.proofs.lemmas.List.{length-map}
+use Rattle.std.proofs.Math.Seq.{take-append_seam}
 use Rattle.rtr_bytes.specs.declared.fault.Fault.{Fault}
 use Rattle.rtr_bytes.specs.Field.{u32_of}
 use Rattle.rtr_bytes.specs.Checks.{first_fault}
@@ -13,10 +14,10 @@ use Rattle.pe_image.specs.Sections.{has_range, slice_of_rva}
 use Rattle.pe_image.specs.Headers.{sections_of, place_of, cli_at, metadata_place, metadata_size}
 use Rattle.pe_image.specs.Checks.{pe_checks}
 use Rattle.pe_image.specs.Places.{aligned, highest_end, dat_rva, cod_rva, headers_end, dat_section, cod_section, all_sections, placed_from, end_from, raw_start}
-use Rattle.pe_image.specs.Written.{KeepsRanges, FindsPart}
+use Rattle.pe_image.specs.Written.{HasRawOf, KeepsRanges, KeepsRaw, FindsPart}
 use Rattle.pe_image.specs.Pieces.{raw_of, raw_parts}
 use Rattle.pe_image.proofs.PlacesLemmas.{aligned-512, aligned-65536, padded_before, placed_from-append, length-placed_from}
-use Rattle.pe_image.proofs.RawLemmas.{Holds, AllZip-left, AllZip-right, kept_in, find_behind, found_in, part_found}
+use Rattle.pe_image.proofs.RawLemmas.{AllWhole, Holds, AllZip-left, AllZip-right, kept_in, find_behind, found_in, part_found}
 use Rattle.pe_image.proofs.ReadBack.{cli_at-is, early_pass, late_checks, late, none_late, same_field}
 use Rattle.pe_image.proofs.FileLemmas.{Parts, the_file, file_holds, file_has, file_sections, file_laid}
 
@@ -66,6 +67,31 @@ file_keeps sections bytes dat cod cli p rva len place e =
     ∙ ap (λ (b : Bool). if b then option_map (place_in rva) (find (has_range rva len) (placed_from (raw_start sections) (sections ++ more))) else None) r.0
     ∙ k.1 in
     (k.0, found, k.2)
+
+-- ---- raw bytes
+
+raw_here : (new old rest : List ℕ) (s : PeSection) (at : ℕ) → drop at new ≡ raw_of old s ++ rest → length (raw_of old s) ≡ s.raw_size → raw_of new (record s { raw_at = at }) ≡ raw_of old s
+unfolding raw_of
+raw_here new old rest s at holds whole =
+    ap (λ (t : List ℕ). take s.raw_size t) holds ∙ ap (λ (t : ℕ). take t (take s.raw_size (drop s.raw_at old) ++ rest)) (sym whole) ∙ take-append_seam (take s.raw_size (drop s.raw_at old)) rest
+
+raw_kept : (new old : List ℕ) (sections : List PeSection) (at : ℕ) → AllZip (Holds new) (placed_from at sections) (map (raw_of old) sections) → AllWhole old sections → AllZip (HasRawOf old new) sections (placed_from at sections)
+raw_kept new old [] at h w = tt
+raw_kept new old (s ∷ ss) at ((rest, holds), hs) (w, ws) = (raw_here new old rest s at holds w, raw_kept new old ss (at + aligned 512 s.raw_size) hs ws)
+
+pub file_raw : (sections : List PeSection) (bytes dat cod : List ℕ) (cli : ℕ) → Parts sections bytes dat cod cli
+    → KeepsRaw sections bytes (sections_of (the_file sections bytes dat cod cli)) (the_file sections bytes dat cod cli)
+file_raw sections bytes dat cod cli p =
+    let out = the_file sections bytes dat cod cli in
+    let more : List PeSection = dat_section sections (length dat) ∷ cod_section sections (length dat) (length cod) ∷ [] in
+    let start = raw_start sections in
+    let front = placed_from start sections in
+    let back = placed_from (end_from start sections) more in
+    let table : take (length sections) (sections_of out) ≡ front =
+    ap (λ (t : List PeSection). take (length sections) t) (file_sections sections bytes dat cod cli p ∙ placed_from-append sections more start)
+    ∙ ap (λ (t : ℕ). take t (front ++ back)) (sym (length-placed_from sections start)) ∙ take-append_seam front back in
+    subst (λ (t : List PeSection). AllZip (HasRawOf bytes out) sections t) (sym table)
+    (raw_kept out bytes sections start (old_held sections bytes dat cod out (length dat) (length cod) (file_holds sections bytes dat cod cli p)) p.raw)
 
 -- ---- a range of a new part
 

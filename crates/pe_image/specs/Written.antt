@@ -1,6 +1,7 @@
 -- A written PE file: when one can be written, the numbers of its headers by their places (PE/COFF 2 to 3.4), and the
 -- bytes that its RVAs keep.
 use Rattle.std.specs.Prelude.{◌≡◌, ℕ, ◌+◌, ◌^◌, ◌<◌, ◌≤◌, ◌==◌, ◌||◌, List, [], ◌∷◌, ◌++◌, length, take, drop, All, nat_le, Some, IsSome, None, if◌then◌else◌}
+use Rattle.std.specs.List.{AllZip}
 use Rattle.rtr_bytes.specs.declared.fault.Span.{Span}
 use Rattle.rtr_bytes.specs.declared.fault.Fault.{Fault}
 use Rattle.rtr_bytes.specs.Checks.{first_fault}
@@ -10,6 +11,7 @@ use Rattle.pe_image.specs.declared.values.HeaderValues.{HeaderValues}
 use Rattle.pe_image.specs.Sections.{slice_of_rva}
 use Rattle.pe_image.specs.Headers.{optional_at, directories_offset, place_of, cli_at}
 use Rattle.pe_image.specs.Checks.{pe_checks}
+use Rattle.pe_image.specs.Pieces.{raw_of}
 use Rattle.pe_image.specs.Places.{aligned, highest_end, dat_rva, cod_rva, headers_end, length_bound}
 
 -- When a file can be written behind k input sections.
@@ -93,6 +95,13 @@ abbrev pub KeepsRanges : List PeSection → List ℕ → List PeSection → List
 KeepsRanges old_sections old new_sections new =
     (rva len place : ℕ) → slice_of_rva old_sections rva len ≡ Some place
     → (kept : ℕ) × (slice_of_rva new_sections rva len ≡ Some kept) × (take len (drop kept new) ≡ take len (drop place old))
+
+-- the raw bytes of each section are those that it had, at its new place
+abbrev pub HasRawOf : List ℕ → List ℕ → PeSection → PeSection → Type 0
+HasRawOf old new before after = raw_of new after ≡ raw_of old before
+
+abbrev pub KeepsRaw : List PeSection → List ℕ → List PeSection → List ℕ → Type 0
+KeepsRaw old_sections old new_sections new = AllZip (HasRawOf old new) old_sections (take (length old_sections) new_sections)
 
 -- A part stands in one piece at a place of the bytes, and each range within it that isn't empty is found there by its RVA.
 pub record FindsPart (sections : List PeSection) (bytes : List ℕ) (rva : ℕ) (part : List ℕ) : Type 0 where

@@ -2,6 +2,7 @@
 #![tactic(auto)]
 
 mod cli;
+mod finder;
 mod layout;
 mod numbers;
 mod pe;

@@ -7,8 +7,9 @@ ghost use Rattle.pe_image.specs.Checks.{pe_checks};
 ghost use Rattle.pe_image.specs.Sections.{slice_of_rva};
 
 use crate::cli::{CLI_HEADER_SIZE, Cli, native_at};
+use crate::finder::Finder;
 use crate::layout::{Layout, signature_at};
-use crate::section::{PeSection, read_sections, slice_in};
+use crate::section::{PeSection, read_sections};
 use rtr_bytes::{ReadRefusal, Span, u32_or_zero};
 use std::alloc::Global;
 use std::marker::Model;
@@ -24,17 +25,19 @@ pub struct Pe {
     cli_flags: u32,
     entry_token: u32,
     native: Option<Span>,
+    finder: Finder,
 }
 
 impl Model for Pe {
     ghost use Rattle.pe_image.specs.Headers.{Headers};
     ghost use Rattle.pe_image.specs.Reach.{AreInReach};
+    ghost use Rattle.pe_image.specs.Finder.{IsFinder};
 
     ghost Value = { Headers };
 
     ghost view = { λ p. record { machine = p.machine; wide = p.wide; sections = p.sections.items; cli = p.cli; metadata = p.metadata; cli_flags = p.cli_flags; entry_token = p.entry_token; native = p.native } };
 
-    ghost invariant = { λ p. AreInReach p.sections.items p.cli p.metadata };
+    ghost invariant = { λ p. AreInReach p.sections.items p.cli p.metadata × IsFinder p.finder p.sections.items };
 }
 
 impl Pe {
@@ -49,6 +52,7 @@ impl Pe {
         let layout = Layout::read(bytes, signature_at(bytes)?)?;
         let sections = read_sections(alloc, bytes, &layout)?;
         let cli = Cli::read(bytes, &layout, &sections)?;
+        let finder = Finder::of(alloc, &sections)?;
         Ok(Pe {
             machine: layout.machine,
             wide: layout.wide,
@@ -61,6 +65,7 @@ impl Pe {
             cli_flags: u32_or_zero(bytes, cli.at + 16),
             entry_token: u32_or_zero(bytes, cli.at + 20),
             native: native_at(bytes, cli.at),
+            finder,
         })
     }
 
@@ -132,6 +137,6 @@ impl Pe {
         // The range ends at a file offset of 32 bits.
         ensures in_reach { IfSome result (λ at. at + len < 2 ^ 32) }
     {
-        slice_in(&self.sections, rva, len)
+        self.finder.slice_in(&self.sections, rva, len)
     }
 }

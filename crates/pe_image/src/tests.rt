@@ -90,6 +90,51 @@ fn finds_ranges_in_the_first_section_that_holds_them(rt: HostRuntime) -> Result<
     Ok(())
 }
 
+/// Appends a section header with these three numbers.
+fn put_section(
+    bytes: &mut Vec<u8>,
+    rva: u32,
+    raw_size: u32,
+    raw_at: u32,
+) -> Result<(), AllocError> {
+    bytes.extend_from_slice(&[0; 12])?;
+    bytes.extend_from_slice(&rva.to_le_bytes())?;
+    bytes.extend_from_slice(&raw_size.to_le_bytes())?;
+    bytes.extend_from_slice(&raw_at.to_le_bytes())?;
+    bytes.extend_from_slice(&[0; 16])
+}
+
+#[test]
+fn finds_ranges_in_a_long_table(rt: HostRuntime) -> Result<(), Fail> {
+    let mut bytes = narrow(rt.alloc())?;
+    bytes.truncate(312);
+    assert_eq!(rt; bytes.len(), 312);
+    bytes[70] = 40;
+    // Sections of 256 bytes one behind the other, and the 21st lies over all but the first.
+    for i in 0..40u32 {
+        if i == 20 {
+            put_section(&mut bytes, 0x1100, 0x3000, 0x1000)?;
+        } else {
+            put_section(&mut bytes, 0x1000 + 0x100 * i, 0x100, 0x800 + i)?;
+        }
+    }
+    bytes.resize(0x800, 0)?;
+    bytes.extend_from_slice(b"\x48\0\0\0\x02\0\x05\0\x48\x10\0\0\x14\0\0\0")?;
+    bytes.resize(0x8000, 0)?;
+    assert!(rt; bytes.len() <= 1 << 31);
+    let pe = Pe::read(rt.alloc(), &bytes)
+        .ok()
+        .ok_or("the file is well formed")?;
+    assert_eq!(rt; pe.sections().len(), 40);
+    // The 2nd section and the 21st hold it, the 21st and the 31st, the 21st alone, at its end, none.
+    assert_eq!(rt; pe.slice_of_rva(0x1110, 8), Some(0x811));
+    assert_eq!(rt; pe.slice_of_rva(0x2E10, 8), Some(0x2D10));
+    assert_eq!(rt; pe.slice_of_rva(0x1180, 0x100), Some(0x1080));
+    assert_eq!(rt; pe.slice_of_rva(0x4100, 0), Some(0x4000));
+    assert_eq!(rt; pe.slice_of_rva(0x4100, 1), None);
+    Ok(())
+}
+
 #[test]
 fn refuses_a_cut_file(rt: HostRuntime) -> Result<(), Fail> {
     let mut bytes = narrow(rt.alloc())?;

@@ -6,7 +6,7 @@ ghost use Rattle.rtr_bytes.specs.Checks.{first_fault};
 ghost use Rattle.pe_image.specs.Headers.{pe_at, is_wide, headers_of, sections_of};
 ghost use Rattle.pe_image.specs.Checks.{pe_checks};
 ghost use Rattle.pe_image.specs.Places.{dat_rva, cod_rva, dat_section, cod_section, placed_from, end_from, raw_start, written_sections, written_length, length_bound, headers_end, AreLaid};
-ghost use Rattle.pe_image.specs.Written.{image_size, header_values, header_fields, StandsIn, IsWritable, KeepsRanges, FindsPart, HasCliHeader, FailsLate, IsWellFormedWith};
+ghost use Rattle.pe_image.specs.Written.{image_size, header_values, header_fields, StandsIn, IsWritable, KeepsRanges, KeepsRaw, FindsPart, HasCliHeader, FailsLate, IsWellFormedWith};
 ghost use Rattle.pe_image.specs.Pieces.{header_bytes, section_bytes, padded, raw_of, raw_parts, file_of, IsInFile};
 
 use crate::numbers::{Number, put_numbers};
@@ -208,6 +208,8 @@ pub fn write_pe(
     ensures length { IfOk result (λ out. length out.items ≡ written_length input.now.sections (length dat.now) (length cod.now)) }
     ensures bounded { IfOk result (λ out. length out.items ≤ length_bound input.now.sections (length dat.now) (length cod.now)) }
 
+    // Each section of the input keeps its raw bytes, whether an RVA leads to them or not.
+    ensures raw { IfOk result (λ out. KeepsRaw input.now.sections bytes.now (sections_of out.items) out.items) }
     // Bytes by their RVAs.
     ensures kept { IfOk result (λ out. KeepsRanges input.now.sections bytes.now (sections_of out.items) out.items) }
     ensures dat { IfOk result (λ out. FindsPart (sections_of out.items) out.items (dat_rva input.now.sections) dat.now) }

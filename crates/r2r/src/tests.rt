@@ -281,6 +281,8 @@ const BROKEN_IMAGES: &str = "@676 29 = check 21 at 676
 @846 08 = check 65 at 846
 @847 12 = check 65 at 847
 @848 30 = check 65 at 847
+@847 0e0f = check 65 at 847
+@847 0efdff = check 65 at 847
 @756 20 = check 66 at 756
 @756 20 @846 08 = check 65 at 846";
 

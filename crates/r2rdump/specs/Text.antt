@@ -54,7 +54,8 @@ machine_line pe = codes "machine " ++ hex4 pe.machine ++ codes " magic " ++ hex4
 
 abbrev pub section_line : PeSection → List ℕ
 section_line s =
-    section_name s.name ++ codes " rva " ++ hex8 s.rva ++ codes " size " ++ hex8 s.virtual_size ++ codes " file " ++ hex8 s.raw_at ++ codes " raw " ++ hex8 s.raw_size ++ newline
+    section_name s.name ++ codes " rva " ++ hex8 s.rva ++ codes " size " ++ hex8 s.virtual_size
+    ++ codes " file " ++ hex8 s.raw_at ++ codes " raw " ++ hex8 s.raw_size ++ newline
 
 abbrev pub cli_line : Headers → List ℕ
 cli_line pe = codes "cli flags " ++ hex8 pe.cli_flags ++ codes " entry " ++ hex8 pe.entry_token ++ newline
@@ -69,7 +70,8 @@ owner own = if own then codes "own" else codes "foreign"
 
 abbrev pub native_line : Bool → RtrHeader → List ℕ
 native_line own h =
-    codes "native " ++ owner own ++ codes " " ++ decimal h.major ++ codes "." ++ decimal h.minor ++ codes " flags " ++ hex8 h.flags ++ codes " sections " ++ decimal (length h.sections) ++ newline
+    codes "native " ++ owner own ++ codes " " ++ decimal h.major ++ codes "." ++ decimal h.minor
+    ++ codes " flags " ++ hex8 h.flags ++ codes " sections " ++ decimal (length h.sections) ++ newline
 
 abbrev pub rtr_section_line : RtrSection → List ℕ
 rtr_section_line s = codes "rtr " ++ decimal s.kind ++ codes " rva " ++ hex8 s.rva ++ codes " size " ++ hex8 s.size ++ newline
@@ -82,7 +84,8 @@ told_slots import = if import.entry_size == 0 then 0 else import.size / import.e
 
 abbrev pub import_line : ℕ → ImportSection → List ℕ
 import_line n import =
-    codes "import " ++ decimal n ++ codes " rva " ++ hex8 import.rva ++ codes " size " ++ hex8 import.size ++ codes " flags " ++ hex4 import.flags ++ codes " type " ++ decimal import.kind ++ codes " entry " ++ decimal import.entry_size ++ codes " slots " ++ decimal (told_slots import) ++ newline
+    codes "import " ++ decimal n ++ codes " rva " ++ hex8 import.rva ++ codes " size " ++ hex8 import.size ++ codes " flags " ++ hex4 import.flags
+    ++ codes " type " ++ decimal import.kind ++ codes " entry " ++ decimal import.entry_size ++ codes " slots " ++ decimal (told_slots import) ++ newline
 
 -- a slot by its number in its section, and its signature
 abbrev pub slot_line : ℕ → Slot → List ℕ
@@ -93,7 +96,8 @@ slot_line n slot = codes "slot " ++ decimal n ++ codes " " ++ encode_lower (fixu
 abbrev pub import_lines : ℕ → List ImportSection → List Slot → List ℕ
 import_lines n [] slots = []
 import_lines n (import ∷ imports) slots =
-    import_line n import ++ numbered slot_line 0 (take (slot_count import) slots) ++ import_lines (n + 1) imports (drop (slot_count import) slots)
+    import_line n import ++ numbered slot_line 0 (take (slot_count import) slots)
+    ++ import_lines (n + 1) imports (drop (slot_count import) slots)
 
 -- ---- entries
 
@@ -111,7 +115,9 @@ slot_ref r = codes " " ++ decimal r.section ++ codes "." ++ decimal r.slot
 
 abbrev pub entry_line_of : EntryPoint → Function → List ℕ
 entry_line_of entry function =
-    codes "entry " ++ hex8 (method_token entry.row) ++ codes " function " ++ decimal entry.function ++ codes " begin " ++ hex8 function.begin ++ codes " length " ++ decimal function.length ++ codes " fixups" ++ flat_map slot_ref entry.fixups ++ newline
+    codes "entry " ++ hex8 (method_token entry.row) ++ codes " function " ++ decimal entry.function
+    ++ codes " begin " ++ hex8 function.begin ++ codes " length " ++ decimal function.length
+    ++ codes " fixups" ++ flat_map slot_ref entry.fixups ++ newline
 
 abbrev pub entry_line : List Function → EntryPoint → List ℕ
 entry_line functions entry = entry_line_of entry (function_at functions entry.function)
@@ -120,7 +126,8 @@ entry_line functions entry = entry_line_of entry (function_at functions entry.fu
 
 abbrev pub image_lines : Image → List ℕ
 image_lines image =
-    native_line image.own image.header ++ flat_map rtr_section_line image.header.sections ++ import_lines 0 image.imports image.slots ++ flat_map (entry_line image.functions) image.entries
+    native_line image.own image.header ++ flat_map rtr_section_line image.header.sections
+    ++ import_lines 0 image.imports image.slots ++ flat_map (entry_line image.functions) image.entries
 
 abbrev pub native_lines : Option Image → List ℕ
 native_lines None = codes "native none" ++ newline

@@ -17,8 +17,9 @@ use Rattle.rtr_sections.specs.Header.{is_own, native_at, part_of, rtr_header_of}
 use Rattle.rtr_sections.specs.Image.{foreign_image_of, image_of, own_image_of, rtr_checks}
 use Rattle.rtr_sections.specs.Imports.{all_slots, first_bad_of, foreign_import, imports_in, out_of_order}
 use Rattle.rtr_sections.specs.Parts.{written_imports}
-use Rattle.rtr_sections.specs.Plan.{FitsTypes, IsPlan}
+use Rattle.rtr_sections.specs.Plan.{IsPlan}
 use Rattle.rtr_sections.specs.Written.{Carries, back_image}
+use Rattle.rtr_sections.proofs.Types.{FitsTypes}
 use Rattle.rtr_sections.proofs.AllChecks.{after_imports}
 use Rattle.rtr_sections.proofs.EntriesBack.{array_good, entries_back, entries_linked, paths_good}
 use Rattle.rtr_sections.proofs.FunctionsBack.{functions_back, functions_good}

@@ -26,7 +26,8 @@ use Rattle.rtr_sections.specs.declared.entries.EntryPoint.{EntryPoint}
 use Rattle.rtr_sections.specs.declared.image.Image.{Image}
 use Rattle.rtr_sections.specs.declared.slots.Slot.{Slot}
 use Rattle.rtr_sections.specs.Parts.{content_of_entry, element_of_entry, entry_bound, entry_bytes, highest_row, length_bound, parts_of, rtr_bytes, signature_bytes_of}
-use Rattle.rtr_sections.specs.Plan.{HasWords, IsWellPlanned}
+use Rattle.rtr_sections.specs.Plan.{IsWellPlanned}
+use Rattle.rtr_sections.proofs.Types.{HasWords}
 use Rattle.rtr_sections.proofs.ArrayBounds.{array_bounded, short_five}
 use Rattle.rtr_sections.proofs.Stands.{end-is}
 

@@ -19,8 +19,9 @@ use Rattle.rtr_sections.specs.Entries.{array_in, bad_array, bytes_in, cut_place,
 use Rattle.rtr_sections.specs.Functions.{function_count}
 use Rattle.rtr_sections.specs.Header.{part_of}
 use Rattle.rtr_sections.specs.Parts.{element_of_entry, entry_bytes, highest_row, import_bytes, parts_of, written_imports}
-use Rattle.rtr_sections.specs.Plan.{FitsTypes, IsPlan, Names, RowsAscend}
+use Rattle.rtr_sections.specs.Plan.{IsPlan, Names, RowsAscend}
 use Rattle.rtr_sections.specs.Written.{Carries}
+use Rattle.rtr_sections.proofs.Types.{FitsTypes}
 use Rattle.rtr_sections.proofs.EntriesFound.{HasEntries, IsReadable, all_present, are_elements, entry_answered, entry_of_index, found_has, has_entries, no_cut, none_bad, none_unlinked}
 use Rattle.rtr_sections.proofs.EntriesLinked.{IsSized, all_pass, entry_linked, slot_named}
 use Rattle.rtr_sections.proofs.FunctionsBack.{functions_counted}

@@ -14,8 +14,9 @@ use Rattle.rtr_sections.specs.declared.image.Image.{Image}
 use Rattle.rtr_sections.specs.Functions.{bad_function, end_before, end_of, function_at, function_count, function_holds, functions_in, holds_behind, is_function, unwind_place}
 use Rattle.rtr_sections.specs.Header.{part_of}
 use Rattle.rtr_sections.specs.Parts.{function_bytes, parts_of, rtr_bytes, unwind_bytes}
-use Rattle.rtr_sections.specs.Plan.{AreInOrder, FitsTypes, IsPlan}
+use Rattle.rtr_sections.specs.Plan.{AreInOrder, IsPlan}
 use Rattle.rtr_sections.specs.Written.{Carries}
+use Rattle.rtr_sections.proofs.Types.{FitsTypes}
 use Rattle.rtr_sections.proofs.Stands.{IsFound, Stands, are_parts, begins_with, end-is, found_whole, length-function_bytes, number_behind, stands_behind, stands_front, unwinds_stand}
 use Rattle.rtr_sections.proofs.HeaderBack.{functions_part}
 

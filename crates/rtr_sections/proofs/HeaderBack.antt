@@ -18,8 +18,9 @@ use Rattle.rtr_sections.specs.declared.header.RtrHeader.{RtrHeader}
 use Rattle.rtr_sections.specs.declared.image.Image.{Image}
 use Rattle.rtr_sections.specs.Header.{ascends, header_checks, identifier, if_native, imports_are_whole, is_identifier, is_own, is_own_kind, native_at, native_rva, part_at, part_of, range_is_placed, record_count, records_at, records_place, rtr_header_of, rtr_section_at, rtr_sections_of}
 use Rattle.rtr_sections.specs.Parts.{entry_bytes, function_bytes, header_bytes, import_bytes, parts_of, rtr_bytes, section, section_bytes, thunks_of, written_imports, written_sections}
-use Rattle.rtr_sections.specs.Plan.{FitsTypes, IsPlan}
+use Rattle.rtr_sections.specs.Plan.{IsPlan}
 use Rattle.rtr_sections.specs.Written.{Carries, IsPlaced, back_image}
+use Rattle.rtr_sections.proofs.Types.{FitsTypes}
 use Rattle.rtr_sections.proofs.Stands.{IsFound, IsPart, Stands, are_parts, begins_with, end-is, entries_stand, found_whole, functions_stand, header_stands, identifier_stands, imports_stand, length-entries, length-functions, length-imports, number_behind, stands_behind, stands_front}
 
 -- ---- the header's first 16 bytes

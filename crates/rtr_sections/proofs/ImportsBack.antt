@@ -1,20 +1,21 @@
 -- The import records of a written image, read back.
-use Rattle.std.proofs.Common.{◌≡◌, ℕ, zero, suc, ◌+◌, ◌*◌, ◌/◌, ◌%◌, ◌^◌, ◌<◌, ◌≤◌, ◌==◌, ◌&&◌, ◌||◌, Bool, List, [], ◌∷◌, ◌++◌, ◌-◌, length, drop, All, Option, None, true, false, refl, sym, ap, ◌∙◌, arith, length-append}
-use Rattle.std.specs.Prelude.{flat_map, is_some, nat_le, sum_by, unwrap_or, slice_index}
+use Rattle.std.proofs.Common.{◌≡◌, ℕ, zero, suc, ◌+◌, ◌*◌, ◌/◌, ◌%◌, ◌^◌, ◌<◌, ◌≤◌, ◌==◌, ◌&&◌, ◌||◌, Bool, List, [], ◌∷◌, ◌++◌, ◌-◌, length, drop, Option, None, true, false, refl, sym, ap, ◌∙◌, arith, length-append}
+use Rattle.std.specs.Prelude.{flat_map, is_some, sum_by, unwrap_or, slice_index}
 use Rattle.std.specs.List.{AllByRecursion}
 use Rattle.std.proofs.lemmas.Bool.{le-leb}
 use Rattle.std.proofs.lemmas.List.Sums.{sum_by-cons}
 use Rattle.byteorder.specs.Endian.{little_bytes}
 use Rattle.rtr_bytes.specs.Checks.{first_record, records}
-use Rattle.rtr_bytes.specs.Field.{field_at, u16_of, u32_of}
+use Rattle.rtr_bytes.specs.Field.{u16_of, u32_of}
 use Rattle.pe_image.specs.Headers.{place_of}
 use Rattle.rtr_sections.specs.declared.image.Image.{Image}
 use Rattle.rtr_sections.specs.declared.imports.ImportSection.{ImportSection}
 use Rattle.rtr_sections.specs.Header.{part_of}
 use Rattle.rtr_sections.specs.Imports.{array_place, cells_are_placed, follows, foreign_import, has_own_form, import_at, import_count, imports_in, out_of_order, slot_count, unplaced_cells}
 use Rattle.rtr_sections.specs.Parts.{import_bytes, parts_of, placed_imports, rtr_bytes, written_imports}
-use Rattle.rtr_sections.specs.Plan.{FitsTypes, HasWrittenForm, IsPlan}
+use Rattle.rtr_sections.specs.Plan.{HasWrittenForm, IsPlan}
 use Rattle.rtr_sections.specs.Written.{Carries}
+use Rattle.rtr_sections.proofs.Types.{FitsTypes}
 use Rattle.rtr_sections.proofs.HeaderBack.{imports_part}
 use Rattle.rtr_sections.proofs.RecordsBack.{all_of, byte_behind, field_behind, field_here, none_fails, records_back}
 use Rattle.rtr_sections.proofs.Stands.{IsPart, Stands, are_parts, begins_with, end-is, found_empty}

@@ -3,9 +3,11 @@ pub mod NativeLemmas
 pub mod Numbered
 pub mod CodeEnds
 pub mod SlotsRead
+pub mod BadWords
 pub mod FixupLaws
 pub mod EntriesRead
 pub mod AllChecks
+pub mod Types
 pub mod Stands
 pub mod RecordsBack
 pub mod HeaderBack

@@ -1,11 +1,10 @@
 -- The slots of a written image, read back.
-use Rattle.std.proofs.Common.{◌≡◌, ℕ, zero, suc, ◌+◌, ◌*◌, ◌/◌, ◌^◌, ◌<◌, ◌≤◌, List, [], ◌∷◌, ◌++◌, length, take, drop, Option, Some, None, refl, sym, ap, ◌∙◌, arith, append_assoc, length-append, length-drop}
-use Rattle.std.specs.Prelude.{flat_map, is_some, unwrap_or, if◌then◌else◌}
+use Rattle.std.proofs.Common.{◌≡◌, ℕ, zero, suc, ◌+◌, ◌*◌, ◌^◌, ◌<◌, ◌≤◌, List, [], ◌∷◌, ◌++◌, length, take, drop, Option, Some, None, refl, sym, ap, ◌∙◌, arith, append_assoc, length-append, length-drop}
+use Rattle.std.specs.Prelude.{is_some, unwrap_or, if◌then◌else◌}
 use Rattle.std.specs.List.{AllByRecursion}
 use Rattle.std.specs.Option.{option_and_then, option_map, option_or}
-use Rattle.std.proofs.lemmas.List.{drop-drop, take-append-drop}
+use Rattle.std.proofs.lemmas.List.{take-append-drop}
 use Rattle.byteorder.specs.Endian.{little_bytes}
-use Rattle.byteorder.specs.Numbers.{length-bytes_low_first}
 use Rattle.rtr_bytes.specs.Field.{field_at, u32_of}
 use Rattle.rtr_bytes.proofs.Spellings.{compressed_spells}
 use Rattle.pe_image.specs.Headers.{place_of}
@@ -20,10 +19,11 @@ use Rattle.rtr_sections.specs.Header.{part_of}
 use Rattle.rtr_sections.specs.Imports.{all_slots, array_at, bad_word, cells_at, first_bad_of, first_bad_word, imports_in, slot_at, slot_count, slot_of, slots_in}
 use Rattle.rtr_sections.specs.Numbered.{first_bad, present}
 use Rattle.rtr_sections.specs.Parts.{cell_bytes, parts_of, placed_imports, signature_bytes_of, signature_rvas, words, written_imports}
-use Rattle.rtr_sections.specs.Plan.{FitsTypes, IsPlan}
+use Rattle.rtr_sections.specs.Plan.{IsPlan}
 use Rattle.rtr_sections.specs.Written.{Carries}
+use Rattle.rtr_sections.proofs.Types.{FitsTypes}
 use Rattle.rtr_sections.proofs.FixupLaws.{fixup_at-found}
-use Rattle.rtr_sections.proofs.ImportsBack.{HaveForm, Room, counts, header-is, imports_back, room, sizes}
+use Rattle.rtr_sections.proofs.ImportsBack.{HaveForm, counts, header-is, imports_back, room}
 use Rattle.rtr_sections.proofs.RecordsBack.{all_of, drop_behind, field_here}
 use Rattle.rtr_sections.proofs.Stands.{Stands, are_parts, arrays_stand, cells_stand, end-is, length-arrays, length-cells, signatures_stand, stands_behind}
 

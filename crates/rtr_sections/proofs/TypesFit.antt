@@ -6,7 +6,8 @@ use Rattle.rtr_sections.specs.declared.image.Image.{Image}
 use Rattle.rtr_sections.specs.declared.imports.ImportSection.{ImportSection}
 use Rattle.rtr_sections.specs.Imports.{slot_count}
 use Rattle.rtr_sections.specs.Parts.{length_bound, placed_imports}
-use Rattle.rtr_sections.specs.Plan.{FitsTypes, HasWords, IsPlan, IsWellPlanned, Names}
+use Rattle.rtr_sections.specs.Plan.{IsPlan, IsWellPlanned, Names}
+use Rattle.rtr_sections.proofs.Types.{FitsTypes, HasWords}
 use Rattle.rtr_sections.proofs.Bounds.{bytes_bounded}
 use Rattle.rtr_sections.proofs.WrittenLemmas.{fits_in}
 
@@ -59,6 +60,6 @@ plan_of plan at p sizes short low = record {
 }
 
 -- some room left says that a plan is short enough
-pub short_of : (plan : Image) (room : Option ℕ) → MatchOption room (2 ^ 24 ≤ length_bound plan) (λ _. length_bound plan < 2 ^ 24) → is_some room ≡ true → length_bound plan < 2 ^ 24
+pub short_of : (plan : Image) (room : Option ℕ) → MatchOption room (2 ^ 24 ≤ length_bound plan) (λ left. length_bound plan + left + 1 ≡ 2 ^ 24) → is_some room ≡ true → length_bound plan < 2 ^ 24
 short_of plan None h some = absurd (cc)
-short_of plan (Some left) h some = h
+short_of plan (Some left) h some = omega (arith, h)

@@ -5,6 +5,7 @@ use Rattle.std.specs.List.{flat_map}
 use Rattle.rtr_bytes.specs.declared.fault.Span.{Span}
 use Rattle.rtr_bytes.specs.Field.{field_at, u16_of, u32_of}
 use Rattle.rtr_bytes.specs.Checks.{first_record, records}
+use Rattle.fixup_sigs.specs.declared.fixup.Fixup.{Fixup}
 use Rattle.pe_image.specs.Headers.{place_of}
 use Rattle.rtr_sections.specs.declared.imports.ImportSection.{ImportSection}
 use Rattle.rtr_sections.specs.declared.slots.Slot.{Slot}
@@ -66,11 +67,14 @@ has_own_form bytes at =
 unfoldable pub foreign_import : List ℕ → Span → Option ℕ
 foreign_import bytes part = first_record (has_own_form bytes) part.start 20 (import_count part)
 
--- the slot whose signature an array's word names, and whose cell stands at a place: none where no fixup begins
--- at that RVA
+-- the fixup whose signature an array's word names: none where no fixup begins at that RVA, and then the word is bad
+abbrev pub named_fixup : List ℕ → ℕ → Option Fixup
+named_fixup bytes word = option_and_then (fixup_at bytes) (place_of bytes (u32_of bytes word) 1)
+
+-- the slot of an array's word, whose cell stands at a place
 unfoldable pub slot_at : List ℕ → ℕ → ℕ → Option Slot
 slot_at bytes word cell =
-    option_map (λ fixup. record { fixup = fixup; word = unwrap_or (field_at 8 bytes cell) 0 }) (option_and_then (fixup_at bytes) (place_of bytes (u32_of bytes word) 1))
+    option_map (λ fixup. record { fixup = fixup; word = unwrap_or (field_at 8 bytes cell) 0 }) (named_fixup bytes word)
 
 -- slot i of a section
 abbrev pub slot_of : List ℕ → ImportSection → ℕ → Option Slot

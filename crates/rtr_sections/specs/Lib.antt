@@ -2,6 +2,7 @@ pub mod Header
 pub mod Numbered
 pub mod Fixups
 pub mod Imports
+pub mod BadWords
 pub mod Functions
 pub mod Entries
 pub mod Image

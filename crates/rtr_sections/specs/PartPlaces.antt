@@ -2,7 +2,6 @@
 use Rattle.std.specs.Prelude.{◌≡◌, ℕ, ◌+◌, ◌-◌, ◌==◌, if◌then◌else◌}
 use Rattle.rtr_bytes.specs.declared.fault.Span.{Span}
 use Rattle.rtr_sections.specs.declared.header.RtrSection.{RtrSection}
-use Rattle.rtr_sections.specs.declared.imports.ImportSection.{ImportSection}
 use Rattle.rtr_sections.specs.declared.written.Places.{Places}
 use Rattle.rtr_sections.specs.Parts.{Parts, section}
 
@@ -24,7 +23,3 @@ ranged places entries s =
     else if s.kind == 102 then section s.kind places.functions (places.unwinds - places.functions)
     else if s.kind == 103 then section s.kind entries.start entries.len
     else s
-
--- the range of an import record's cells
-abbrev pub span_of_cells : ImportSection → Span
-span_of_cells import = record { start = import.rva; len = import.size }

@@ -1,5 +1,5 @@
 -- The ReadyToRun part as this compiler writes it: the parts of it, one behind the other, where each stands, and its bytes.
-use Rattle.std.specs.Prelude.{ℕ, ◌+◌, ◌-◌, ◌*◌, ◌/◌, ◌==◌, List, [], ◌∷◌, ◌++◌, length, map, flat_map, max, find, sum_by, unwrap_or}
+use Rattle.std.specs.Prelude.{ℕ, ◌+◌, ◌-◌, ◌*◌, ◌==◌, List, [], ◌∷◌, ◌++◌, length, map, flat_map, max, find, sum_by, unwrap_or}
 use Rattle.byteorder.specs.Endian.{little_bytes}
 use Rattle.rtr_bytes.specs.declared.fault.Span.{Span}
 use Rattle.native_format.specs.declared.nibbles.SlotRef.{SlotRef}
@@ -168,9 +168,12 @@ rtr_bytes plan at = flat_map (λ part. part) (part_list plan at)
 abbrev pub header_span : Image → ℕ → Span
 header_span plan at = record { start = at + (parts_of plan).header; len = 76 }
 
--- those of the import sections' cells
+-- the range of an import record's cells
+abbrev pub span_of_cells : ImportSection → Span
+span_of_cells import = record { start = import.rva; len = import.size }
+
 abbrev pub cell_spans : Image → ℕ → List Span
-cell_spans plan at = map (λ import. record { start = import.rva; len = import.size }) (written_imports plan at)
+cell_spans plan at = map span_of_cells (written_imports plan at)
 
 -- ---- no part is longer: 10 bytes for a signature and, for an entry, 20 for the nodes above it, 5 for its id, and 17 for
 -- each of its slots and 2 more; a block of the array takes 4 bytes of the index, and 1 where it is empty

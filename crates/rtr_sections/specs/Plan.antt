@@ -1,13 +1,12 @@
 -- A plan: the records of a ReadyToRun part that is to be written.
-use Rattle.std.specs.Prelude.{◌≡◌, ℕ, zero, suc, ◌+◌, ◌*◌, ◌%◌, ◌/◌, ◌^◌, ◌<◌, ◌≤◌, ◌⊎◌, List, [], ◌∷◌, length, map, All, sum_by, IsTrue}
+use Rattle.std.specs.Prelude.{◌≡◌, ℕ, zero, suc, ◌+◌, ◌%◌, ◌^◌, ◌<◌, ◌≤◌, List, [], ◌∷◌, length, map, All, sum_by}
 use Rattle.native_format.specs.declared.nibbles.SlotRef.{SlotRef}
-use Rattle.native_format.specs.Nibbles.{AscendFrom, FitsWords}
+use Rattle.native_format.specs.Nibbles.{AscendFrom}
 use Rattle.fixup_sigs.specs.Shortest.{IsSpellable}
 use Rattle.rtr_sections.specs.declared.entries.EntryPoint.{EntryPoint}
 use Rattle.rtr_sections.specs.declared.functions.Function.{Function}
 use Rattle.rtr_sections.specs.declared.image.Image.{Image}
 use Rattle.rtr_sections.specs.declared.imports.ImportSection.{ImportSection}
-use Rattle.rtr_sections.specs.declared.slots.Slot.{Slot}
 use Rattle.rtr_sections.specs.Functions.{end_of}
 use Rattle.rtr_sections.specs.Imports.{slot_count}
 use Rattle.rtr_sections.specs.Parts.{length_bound, rtr_bytes}
@@ -69,16 +68,3 @@ pub record IsPlan (plan : Image) (at : ℕ) : Type 0 where
 pub record IsShort (plan : Image) (at : ℕ) : Type 0 where
   pub bounded : length_bound plan < 2 ^ 24
   pub low : at ≤ 2 ^ 31
-
--- each number of its list has 32 bits
-abbrev pub HasWords : EntryPoint → Type 0
-HasWords entry = All FitsWords entry.fixups
-
--- Each number is one of its field's type.
-pub record FitsTypes (plan : Image) : Type 0 where
-  pub flags : plan.header.flags < 2 ^ 32
-  pub sections : All (λ s. (s.rva < 2 ^ 32) × (s.size < 2 ^ 32)) plan.header.sections
-  pub imports : All (λ i. (i.size < 2 ^ 32) × (i.flags < 2 ^ 16)) plan.imports
-  pub slots : All (λ s. s.word < 2 ^ 64) plan.slots
-  pub functions : All (λ f. (f.begin < 2 ^ 32) × (f.length < 2 ^ 32)) plan.functions
-  pub entries : All HasWords plan.entries

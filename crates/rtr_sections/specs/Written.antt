@@ -1,5 +1,5 @@
 -- A written ReadyToRun part, read back from a file that carries it.
-use Rattle.std.specs.Prelude.{◌≡◌, ℕ, ◌+◌, ◌-◌, ◌==◌, ◌<◌, ◌≤◌, List, [], ◌∷◌, ◌++◌, length, map, All, true, Some, IsSome, if◌then◌else◌}
+use Rattle.std.specs.Prelude.{◌≡◌, ℕ, ◌+◌, ◌-◌, ◌==◌, ◌<◌, ◌≤◌, List, ◌++◌, length, map, All, true, Some, IsSome, if◌then◌else◌}
 use Rattle.rtr_bytes.specs.Field.{u32_of}
 use Rattle.pe_image.specs.declared.section.PeSection.{PeSection}
 use Rattle.pe_image.specs.Headers.{machine_of, native_of, place_of, sections_of}

@@ -44,6 +44,17 @@ const HEADER_SIZE: u32 = 16;
 /// The bytes of a section record.
 const RECORD_SIZE: u32 = 12;
 
+/// CompilerIdentifier, a type of section (ReadyToRunSectionType).
+pub(crate) const COMPILER_IDENTIFIER: u32 = 100;
+/// ImportSections.
+pub(crate) const IMPORT_SECTIONS: u32 = 101;
+/// RuntimeFunctions.
+pub(crate) const RUNTIME_FUNCTIONS: u32 = 102;
+/// MethodDefEntryPoints.
+pub(crate) const METHOD_DEF_ENTRY_POINTS: u32 = 103;
+/// DelayLoadMethodCallThunks.
+pub(crate) const DELAY_LOAD_METHOD_CALL_THUNKS: u32 = 106;
+
 /// The identifier of this compiler's images.
 pub(crate) const IDENTIFIER: &[u8; 14] = b"r2r profile 1\0";
 /// The machine of this compiler's images, IMAGE_FILE_MACHINE_ARM64.

@@ -1,29 +1,24 @@
 //! The ReadyToRun part of an image, by its records.
 
-ghost use Rattle.std.specs.Prelude.{◌≡◌, ◌≤◌, ◌^◌, length, None, All, IfErr, IfOk, OnOk, is_some, true, false};
-ghost use Rattle.rtr_bytes.specs.Checks.{first_fault, RefusedBy};
+ghost use Rattle.std.specs.Prelude.{◌≡◌, ◌≤◌, ◌^◌, length, None, All, IfErr, IfOk, IfSome, OnOk, is_some, nat_le, sum_by, true, false};
+ghost use Rattle.rtr_bytes.specs.Checks.{fault_or, first_fault, RefusedBy};
+ghost use Rattle.rtr_bytes.specs.declared.fault.ReadRefusal.TheVariants as refusals;
 ghost use Rattle.pe_image.specs.Headers.{headers_of, native_of};
 ghost use Rattle.pe_image.specs.Checks.{pe_checks};
 ghost use Rattle.fixup_sigs.specs.Shortest.{IsSpellable};
 ghost use Rattle.rtr_sections.specs.Header.{is_own, part_of, rtr_header_of};
-ghost use Rattle.rtr_sections.specs.Imports.{imports_in};
+ghost use Rattle.rtr_sections.specs.Imports.{all_slots, first_bad_of, imports_in, slot_count};
 ghost use Rattle.rtr_sections.specs.Image.{own_checks, own_image_of, foreign_image_of, image_of, rtr_checks};
 
+use crate::bad_words::check_slots;
 use crate::entries::{EntryPoint, Named, read_entries};
 use crate::functions::{Function, read_functions};
-use crate::header::RtrHeader;
+use crate::header::{IMPORT_SECTIONS, METHOD_DEF_ENTRY_POINTS, RUNTIME_FUNCTIONS, RtrHeader};
 use crate::imports::{ImportSection, check_cells_order, check_forms, read_imports};
 use crate::slots::{Slot, read_slots};
 use pe_image::Pe;
 use rtr_bytes::{ReadRefusal, Sequence};
 use std::alloc::Global;
-
-/// ImportSections.
-const IMPORT_SECTIONS: u32 = 101;
-/// RuntimeFunctions.
-const RUNTIME_FUNCTIONS: u32 = 102;
-/// MethodDefEntryPoints.
-const METHOD_DEF_ENTRY_POINTS: u32 = 103;
 
 /// The ReadyToRun part of an image. Of a foreign image, which this compiler didn't write, it has the header and
 /// the import records alone: another compiler's slots, functions and entries aren't looked at.
@@ -53,6 +48,64 @@ impl Image {
     }
 }
 
+/// Whether import records have at most as many slots as the file has bytes.
+fn are_few(bytes: &[u8], imports: &[ImportSection]) -> bool
+    requires { length bytes.now ≤ 2 ^ 31 }
+    ensures { result ≡ nat_le (sum_by slot_count imports.now) (length bytes.now) }
+{
+    let mut count = 0;
+    for import in imports {
+        count += import.size / 8;
+        if count > bytes.len() as u32 {
+            return false;
+        }
+    }
+    true
+}
+
+/// The slots of import records, once each names a fixup: read where they are few. Of more, which share words of the
+/// file, each is checked and none kept.
+fn read_if_few(
+    alloc: Global,
+    pe: &Pe,
+    bytes: &[u8],
+    imports: &[ImportSection],
+) -> Result<Option<Vec<Slot>>, ReadRefusal>
+    requires small { length bytes.now ≤ 2 ^ 31 }
+    requires pe { pe.now ≡ headers_of bytes.now }
+    ensures fault { IfErr result (λ e. RefusedBy (fault_or 61 (first_bad_of bytes.now imports.now) None) e) }
+    ensures ok { OnOk result (first_bad_of bytes.now imports.now ≡ None) }
+    ensures slots { IfOk result (λ read. IfSome read (λ slots. slots.items ≡ all_slots bytes.now imports.now)) }
+{
+    if are_few(bytes, imports) {
+        let slots = read_slots(alloc, pe, bytes, imports)?;
+        return Ok(Some(slots));
+    }
+    check_slots(alloc, pe, bytes, imports)?;
+    Ok(None)
+}
+
+/// The slots of import records each of which names a fixup: those that were read, or they are read now.
+fn read_now(
+    alloc: Global,
+    pe: &Pe,
+    bytes: &[u8],
+    imports: &[ImportSection],
+    read: Option<Vec<Slot>>,
+) -> Result<Vec<Slot>, ReadRefusal>
+    requires small { length bytes.now ≤ 2 ^ 31 }
+    requires pe { pe.now ≡ headers_of bytes.now }
+    requires good { first_bad_of bytes.now imports.now ≡ None }
+    requires read { IfSome read (λ slots. slots.items ≡ all_slots bytes.now imports.now) }
+    ensures memory { IfErr result (λ e. e ≡ refusals.NoMemory) }
+    ensures slots { IfOk result (λ slots. slots.items ≡ all_slots bytes.now imports.now) }
+{
+    match read {
+        Some(slots) => Ok(slots),
+        None => read_slots(alloc, pe, bytes, imports),
+    }
+}
+
 /// What stands in an image of this compiler behind its header and its import records.
 #[tactic(auto, unfolding(crate::specs::Image::own_image_of))]
 fn read_own(
@@ -78,7 +131,7 @@ fn read_own(
     let function_part = header.part(pe, bytes, RUNTIME_FUNCTIONS);
     let entry_part = header.part(pe, bytes, METHOD_DEF_ENTRY_POINTS);
     check_forms(pe, bytes, import_part)?;
-    let slots = read_slots(alloc, pe, bytes, &imports)?;
+    let read = read_if_few(alloc, pe, bytes, &imports)?;
     let functions = read_functions(alloc, pe, bytes, function_part)?;
     let named = Named {
         imports: import_part,
@@ -86,6 +139,7 @@ fn read_own(
     };
     let entries = read_entries(alloc, bytes, entry_part, method_rows, named)?;
     check_cells_order(bytes, import_part)?;
+    let slots = read_now(alloc, pe, bytes, &imports, read)?;
     Ok(Image {
         header,
         imports: Sequence::from_vec(imports),
@@ -98,7 +152,8 @@ fn read_own(
 
 /// The ReadyToRun part of a file with a native header, whose PE headers are `pe` and whose assembly has so many
 /// MethodDef rows. `Malformed` names the first of the checks 16 to 22 and, of an image that this compiler wrote,
-/// 60 to 66 that fails, with its first place. It goes over the file once, and over each entry's own list.
+/// 60 to 66 that fails, with its first place. Its time is linear in the file, the entries' own lists and, of an image
+/// that passes its checks, its slots: import records that share words of the file make no other image slow.
 #[tactic(auto, unfolding(crate::specs::Image::rtr_checks, crate::specs::Image::image_of, crate::specs::Image::foreign_image_of))]
 pub fn read_rtr(
     alloc: Global,

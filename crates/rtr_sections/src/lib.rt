@@ -5,6 +5,7 @@
 //! records as the part of an image of this compiler, where [`can_write_rtr`] says that it can.
 #![tactic(auto)]
 
+mod bad_words;
 mod entries;
 mod entry_writer;
 mod functions;

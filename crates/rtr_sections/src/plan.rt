@@ -10,11 +10,23 @@ ghost use Rattle.rtr_sections.specs.Plan.{AreInOrder, HasWrittenForm, IsLinkedIn
 use crate::entries::EntryPoint;
 use crate::entry_writer::highest_row;
 use crate::functions::Function;
-use crate::header::RtrHeader;
+use crate::header::{
+    COMPILER_IDENTIFIER, DELAY_LOAD_METHOD_CALL_THUNKS, IMPORT_SECTIONS, METHOD_DEF_ENTRY_POINTS,
+    RUNTIME_FUNCTIONS, RtrHeader,
+};
 use crate::image::Image;
 use crate::imports::ImportSection;
 use crate::slots::Slot;
 use native_format::SlotRef;
+
+/// The types of the sections that this compiler writes, in their order.
+const WRITTEN_SECTIONS: [u32; 5] = [
+    COMPILER_IDENTIFIER,
+    IMPORT_SECTIONS,
+    RUNTIME_FUNCTIONS,
+    METHOD_DEF_ENTRY_POINTS,
+    DELAY_LOAD_METHOD_CALL_THUNKS,
+];
 
 impl RtrHeader {
     /// Whether it is of version 5.0, with the sections that this compiler writes.
@@ -26,7 +38,7 @@ impl RtrHeader {
             [a, b, c, d, e] => {
                 self.major == 5
                     && self.minor == 0
-                    && [a.kind, b.kind, c.kind, d.kind, e.kind] == [100, 101, 102, 103, 106]
+                    && [a.kind, b.kind, c.kind, d.kind, e.kind] == WRITTEN_SECTIONS
             }
             _ => false,
         }
@@ -187,7 +199,7 @@ fn room_behind_entries(room: u64, entries: &[EntryPoint]) -> Option<u64>
 
 /// What is left of 2^24 - 1 bytes behind a plan's part, none where it may not fit.
 fn room_left(plan: &Image) -> Option<u64>
-    ensures { MatchOption result (2 ^ 24 ≤ length_bound plan.now) (λ _. length_bound plan.now < 2 ^ 24) }
+    ensures { MatchOption result (2 ^ 24 ≤ length_bound plan.now) (λ left. length_bound plan.now + left + 1 ≡ 2 ^ 24) }
 {
     let entries = plan.entries.as_slice();
     let blocks = (u64::from(highest_row(entries)) + 15) / 16;

@@ -4,7 +4,7 @@ ghost use Rattle.std.specs.Prelude.{None, ◌≡◌, ◌+◌, ◌*◌, ◌++◌,
 ghost use Rattle.rtr_bytes.specs.Checks.{fault_or, RefusedBy};
 ghost use Rattle.pe_image.specs.Headers.{headers_of};
 ghost use Rattle.rtr_sections.specs.Fixups.{fixup_at};
-ghost use Rattle.rtr_sections.specs.Imports.{all_slots, array_at, cells_at, first_bad_of, first_bad_word, slot_at, slot_count, slots_in};
+ghost use Rattle.rtr_sections.specs.Imports.{all_slots, array_at, cells_at, first_bad_of, first_bad_word, named_fixup, slot_at, slot_count, slots_in};
 
 use crate::imports::ImportSection;
 use fixup_sigs::{Fixup, read_fixup};
@@ -30,21 +30,30 @@ fn fixup_at(bytes: &[u8], at: u32) -> Option<Fixup>
     Some(fixup)
 }
 
-/// The slot whose signature an array's word names, and whose cell stands at a place.
+/// The fixup whose signature an array's word names. `None` where no fixup begins at that RVA: the word is bad.
+pub(crate) fn named_fixup(pe: &Pe, bytes: &[u8], word: u32) -> Option<Fixup>
+    requires small { length bytes.now ≤ 2 ^ 31 }
+    requires pe { pe.now ≡ headers_of bytes.now }
+    ensures { result ≡ named_fixup bytes.now word }
+{
+    let at = pe.slice_of_rva(u32_or_zero(bytes, word), 1)?;
+    fixup_at(bytes, at)
+}
+
+/// The slot of an array's word, whose cell stands at a place.
 #[tactic(auto, unfolding(crate::specs::Imports::slot_at))]
 fn slot_at(pe: &Pe, bytes: &[u8], word: u32, cell: u32) -> Option<Slot>
     requires small { length bytes.now ≤ 2 ^ 31 }
     requires pe { pe.now ≡ headers_of bytes.now }
     ensures { result ≡ slot_at bytes.now word cell }
 {
-    let at = pe.slice_of_rva(u32_or_zero(bytes, word), 1)?;
-    let fixup = fixup_at(bytes, at)?;
+    let fixup = named_fixup(pe, bytes, word)?;
     let word = u64_at(bytes, cell).unwrap_or(0);
     Some(Slot { fixup, word })
 }
 
 /// The place of an import record's array of signatures. Of no meaning where it isn't in a section of the file.
-fn array_at(pe: &Pe, bytes: &[u8], import: &ImportSection) -> u32
+pub(crate) fn array_at(pe: &Pe, bytes: &[u8], import: &ImportSection) -> u32
     requires pe { pe.now ≡ headers_of bytes.now }
     ensures place { result ≡ array_at bytes.now import.now }
     ensures in_reach { result + 4 * slot_count import.now < 2 ^ 32 }

@@ -4,7 +4,7 @@ use super::*;
 use fixup_sigs::Fixup;
 use native_format::SlotRef;
 use pe_image::Pe;
-use rtr_bytes::{Fault, ReadRefusal};
+use rtr_bytes::ReadRefusal;
 use std::alloc::{AllocError, Global};
 use std::test::Fail;
 
@@ -177,51 +177,53 @@ fn foreign_images(rt: HostRuntime) -> Result<(), Fail> {
     Ok(())
 }
 
-/// A change of the image, and the check that fails then with its place.
-fn broken(place: usize, bytes: &'static [u8], check: u16, at: u32) -> (Piece, Fault) {
-    ((place, bytes), Fault { check, place: at })
+/// The array counts two elements, and the assembly has one row. (Every check is broken once in the program's tests.)
+#[test]
+fn fewer_rows_than_elements(rt: HostRuntime) -> Result<(), Fail> {
+    let bytes = own_with(rt.alloc(), &[])?;
+    match read(rt.alloc(), &bytes, 1) {
+        Some(Err(ReadRefusal::Malformed(fault))) => {
+            assert_eq!(rt; fault.check, 63);
+            assert_eq!(rt; fault.place, 816);
+        }
+        _ => assert!(rt; false, "a row is missing"),
+    }
+    Ok(())
+}
+
+/// The image with 1,024 bytes more: 11 import records that all name the same 192 cells and the same array of
+/// signatures, so that the slots are more than the file's bytes. All words of the array are alike but number 100.
+fn shared_slots(alloc: Global, word: &[u8]) -> Result<Vec<u8>, AllocError> {
+    let larger: [Piece; 3] = [
+        (337, &[6]),
+        (345, &[6]),
+        (672, &[0, 0x12, 0, 0, 220, 0, 0, 0]),
+    ];
+    let mut bytes = own_with(alloc, &larger)?;
+    for _ in 0..11 {
+        bytes.extend_from_slice(b"\0\x10\0\0\0\x06\0\0\0\0\0\x08\0\x13\0\0\0\0\0\0")?;
+    }
+    bytes.resize(1280, 0)?;
+    for i in 0..192 {
+        bytes.extend_from_slice(if i == 100 { word } else { b"\x0C\x11\0\0" })?;
+    }
+    Ok(bytes)
 }
 
 #[test]
-fn each_check(rt: HostRuntime) -> Result<(), Fail> {
-    let table = [
-        broken(577, &[0x50], 16, 576),
-        broken(640, b"X", 17, 640),
-        broken(652, &[200], 18, 652),
-        broken(668, &[100], 19, 668),
-        broken(673, &[0x50], 20, 672),
-        broken(676, &[21], 21, 676),
-        broken(737, &[0x50], 22, 736),
-        broken(746, &[1], 60, 736),
-        broken(747, &[4], 60, 736),
-        broken(740, &[9], 60, 736),
-        broken(752, &[1], 60, 736),
-        broken(749, &[0x50], 60, 736),
-        broken(780, &[0x13], 61, 776),
-        broken(777, &[0x50], 61, 776),
-        broken(688, &[17], 62, 792),
-        broken(792, &[0x42], 62, 792),
-        broken(797, &[0x50], 62, 792),
-        broken(808, &[7], 62, 792),
-        broken(809, &[0x10], 62, 792),
-        broken(800, &[0x44], 62, 800),
-        broken(816, &[0x16], 63, 816),
-        broken(816, &[0x18], 63, 816),
-        broken(817, &[0xFF], 64, 817),
-        broken(821, &[0xF6], 64, 821),
-        broken(823, &[0x12], 65, 823),
-        broken(822, &[0x1C], 65, 822),
-        broken(824, &[0x01], 65, 823),
-        broken(824, &[0x10], 65, 823),
-        broken(823, &[0x0E, 0x0F], 65, 823),
-        broken(823, &[0x0E, 0xFD, 0xFF], 65, 823),
-        broken(676, &[40], 66, 756),
-    ];
-    for (change, expected) in &table {
-        let bytes = own_with(rt.alloc(), &[*change])?;
+fn slots_that_records_share(rt: HostRuntime) -> Result<(), Fail> {
+    let table: [Piece; 2] = [(61, b"\x0C\x50\0\0"), (66, b"\x0C\x11\0\0")];
+    let places = [1680, 1044];
+    for i in 0..2 {
+        let (check, word) = table[i];
+        let bytes = shared_slots(rt.alloc(), word)?;
+        assert_eq!(rt; bytes.len(), 2048);
         match read(rt.alloc(), &bytes, 2) {
-            Some(Err(ReadRefusal::Malformed(fault))) => assert_eq!(rt; fault, *expected),
-            _ => assert!(rt; false, "{expected:?}"),
+            Some(Err(ReadRefusal::Malformed(fault))) => {
+                assert_eq!(rt; fault.check as usize, check);
+                assert_eq!(rt; fault.place, places[i]);
+            }
+            _ => assert!(rt; false, "check {check}"),
         }
     }
     Ok(())

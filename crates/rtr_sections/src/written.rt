@@ -5,14 +5,17 @@ ghost use Rattle.std.specs.List.{flat_map};
 ghost use Rattle.rtr_bytes.specs.Checks.{first_fault};
 ghost use Rattle.rtr_sections.specs.Header.{identifier, native_at};
 ghost use Rattle.rtr_sections.specs.Image.{image_of, rtr_checks};
-ghost use Rattle.rtr_sections.specs.PartPlaces.{ArePlaces, ranged, span_of_cells};
-ghost use Rattle.rtr_sections.specs.Parts.{cell_bytes, cell_spans, entry_bytes, function_bytes, header_bytes, header_span, import_bytes, parts_of, rtr_bytes, section_bytes, signature_bytes_of, unwind_bytes, written_imports};
+ghost use Rattle.rtr_sections.specs.PartPlaces.{ArePlaces, ranged};
+ghost use Rattle.rtr_sections.specs.Parts.{cell_bytes, cell_spans, entry_bytes, function_bytes, header_bytes, header_span, import_bytes, length_bound, parts_of, rtr_bytes, section_bytes, signature_bytes_of, span_of_cells, unwind_bytes, written_imports};
 ghost use Rattle.rtr_sections.specs.Plan.{IsPlan};
 ghost use Rattle.rtr_sections.specs.Written.{Carries, asked_of, back_image, shape_of};
 
 use crate::entry_writer::write_entries;
 use crate::functions::{ENTRY_SIZE, Function};
-use crate::header::{IDENTIFIER, RtrHeader, RtrSection, SIGNATURE};
+use crate::header::{
+    COMPILER_IDENTIFIER, IDENTIFIER, IMPORT_SECTIONS, METHOD_DEF_ENTRY_POINTS, RUNTIME_FUNCTIONS,
+    RtrHeader, RtrSection, SIGNATURE,
+};
 use crate::image::Image;
 use crate::imports::{ImportSection, RECORD_SIZE};
 use crate::pieces::{
@@ -87,10 +90,10 @@ impl RtrSection {
         ensures fits { (self.rva < 2 ^ 32) × (self.size < 2 ^ 32) }
     {
         let (rva, size) = match self.kind {
-            100 => (places.identifier, IDENTIFIER.len() as u32),
-            101 => (places.imports, places.arrays - places.imports),
-            102 => (places.functions, places.unwinds - places.functions),
-            103 => (entries.start, entries.len),
+            COMPILER_IDENTIFIER => (places.identifier, IDENTIFIER.len() as u32),
+            IMPORT_SECTIONS => (places.imports, places.arrays - places.imports),
+            RUNTIME_FUNCTIONS => (places.functions, places.unwinds - places.functions),
+            METHOD_DEF_ENTRY_POINTS => (entries.start, entries.len),
             _ => (self.rva, self.size),
         };
         RtrSection { rva, size, ..self }
@@ -197,8 +200,9 @@ fn cell_spans(alloc: Global, imports: &[ImportSection]) -> Result<Vec<Span>, NoM
     Ok(spans)
 }
 
-/// Writes the ReadyToRun part of a plan for an RVA. It takes the functions' begins and the range of the thunks from the
-/// plan, and chooses every other place, and the size of every other section.
+/// Writes the ReadyToRun part of a plan for an RVA (ReadyToRun File Format, "Structures"). It takes the functions' begins and
+/// the range of the thunks from the plan, and chooses every other place, and the size of every other section; docs/FORMATS.md
+/// has the layout. [`can_write_rtr`](crate::can_write_rtr) is the test of its condition. The one refusal is want of memory.
 pub fn write_rtr(alloc: Global, plan: &Image, at: u32) -> Result<Written, NoMemory>
     requires plan { IsPlan plan.now at }
 
@@ -206,6 +210,7 @@ pub fn write_rtr(alloc: Global, plan: &Image, at: u32) -> Result<Written, NoMemo
     ensures header { IfOk result (λ w. w.header ≡ header_span plan.now at) }
     ensures cells { IfOk result (λ w. w.cells.items ≡ cell_spans plan.now at) }
     ensures small { IfOk result (λ w. length w.bytes.items < 2 ^ 24) }
+    ensures bounded { IfOk result (λ w. length w.bytes.items ≤ length_bound plan.now) }
 
     // The plan's places, and the sizes of the sections that the writer fills, aren't read.
     ensures unread { IfOk result (λ w. (other : Image) → asked_of other ≡ asked_of plan.now → w.bytes.items ≡ rtr_bytes other at) }

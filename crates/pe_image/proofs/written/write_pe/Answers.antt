@@ -58,6 +58,9 @@ returns-clause-length c = ok_then _ _ c.join.result (λ out e. (file_written c o
 pub returns-clause-bounded : goal.returns-clause-bounded
 returns-clause-bounded c = ok_then _ _ c.join.result (λ out e. (file_written c out.items e).bounded) c.join.ensures
 
+pub returns-clause-raw : goal.returns-clause-raw
+returns-clause-raw c = ok_then _ _ c.join.result (λ out e. (file_written c out.items e).raw) c.join.ensures
+
 pub returns-clause-kept : goal.returns-clause-kept
 returns-clause-kept c = ok_then _ _ c.join.result (λ out e. (file_written c out.items e).kept) c.join.ensures
 

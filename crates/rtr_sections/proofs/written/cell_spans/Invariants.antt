@@ -1,5 +1,5 @@
 use Rattle.std.proofs.Common.{◌≡◌, take, map}
-use Rattle.rtr_sections.specs.PartPlaces.{span_of_cells}
+use Rattle.rtr_sections.specs.Parts.{span_of_cells}
 use Rattle.rtr_sections.proofs.written.cell_spans.Given as goal
 
 abbrev pub invariant-loop-import : goal.invariant-loop-import

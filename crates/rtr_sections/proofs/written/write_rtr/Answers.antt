@@ -2,10 +2,10 @@ use Rattle.std.proofs.Common.{◌≡◌, ◌+◌, ◌-◌, ℕ, List, length, ma
 use Rattle.rtr_sections.specs.declared.slots.Slot.{Slot}
 use Rattle.rtr_sections.specs.declared.entries.EntryPoint.{EntryPoint}
 use Rattle.rtr_sections.specs.declared.imports.ImportSection.{ImportSection}
-use Rattle.rtr_sections.specs.Parts.{cell_spans, entry_bytes, header_span, parts_of, placed_imports, rtr_bytes, signature_bytes_of, signature_rvas, words}
-use Rattle.rtr_sections.specs.PartPlaces.{span_of_cells}
-use Rattle.rtr_sections.specs.Plan.{FitsTypes}
+use Rattle.rtr_sections.specs.Parts.{cell_spans, entry_bytes, header_span, parts_of, placed_imports, rtr_bytes, signature_bytes_of, signature_rvas, span_of_cells, words}
+use Rattle.rtr_sections.proofs.Types.{FitsTypes}
 use Rattle.rtr_sections.proofs.Back.{image_back, well_formed}
+use Rattle.rtr_sections.proofs.Bounds.{bytes_bounded}
 use Rattle.rtr_sections.proofs.Stands.{are_parts}
 use Rattle.rtr_sections.proofs.TypesFit.{types_fit}
 use Rattle.rtr_sections.proofs.Unread.{asked_bytes, shape_cells, shape_header, shape_imports, shape_length, shape_parts}
@@ -132,3 +132,6 @@ returns-clause-well_formed c file rows carries = well_formed file c.args.plan.no
 
 pub returns-clause-read_back : goal.returns-clause-read_back
 returns-clause-read_back c file rows carries = image_back file c.args.plan.now c.args.at rows c.requires.plan (fits c) carries
+
+pub returns-clause-bounded : goal.returns-clause-bounded
+returns-clause-bounded c = rw (whole c) (bytes_bounded c.args.plan.now c.args.at c.requires.plan.planned (fits c).entries)
