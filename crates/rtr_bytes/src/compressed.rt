@@ -7,7 +7,7 @@ ghost use Rattle.rtr_bytes.specs.Spelling.{BeginsAt, NoneBeginsAnother};
 use crate::fault::NoMemory;
 use byteorder::{BigEndian, ByteOrder};
 
-/// The compressed unsigned integer at a file offset, and the offset behind it. A longer spelling than the
+/// The compressed unsigned integer at a file offset, and the offset after it. A longer spelling than the
 /// number needs is read too. `None` exactly where none is spelled there: the bytes are cut, or the first one
 /// has the top bits 111.
 pub fn compressed_at(bytes: &[u8], at: u32) -> Option<(u32, u32)>
@@ -57,7 +57,7 @@ pub fn shortest_compressed()
     // No other spelling of the number is shorter.
     ensures shortest { (bytes : List ℕ) (n : ℕ) → IsCompressed bytes n
         → length (compressed_bytes n) ≤ length bytes }
-    // It is read again behind whatever bytes, and whatever follows.
+    // It is read again after any bytes, and whatever follows.
     ensures read_back { (n : ℕ) (before rest : List ℕ) → n < 2 ^ 29
         → BeginsAt IsCompressed (before ++ compressed_bytes n ++ rest) (length before) n
         (length before + length (compressed_bytes n)) }

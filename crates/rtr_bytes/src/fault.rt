@@ -1,6 +1,6 @@
 //! Where a file is malformed, and what a reader refuses with.
 
-ghost use Rattle.std.specs.Prelude.{◌≡◌};
+ghost use Rattle.std.specs.Prelude.{◌≡◌, true, false, IfErr, OnOk};
 ghost use Rattle.rtr_bytes.specs.declared.fault.ReadRefusal.TheVariants as refusals;
 
 use std::alloc::{AllocError, AllocFailed};
@@ -13,6 +13,18 @@ pub struct Fault {
     pub check: u16,
     /// A file offset in bytes. It may be the file's length.
     pub place: u32,
+}
+
+/// Refuses with a check at a place, unless it holds.
+pub fn ensure(holds: bool, check: u16, place: u32) -> Result<(), Fault>
+    ensures holds { OnOk result (holds ≡ true) }
+    ensures fault { IfErr result (λ f. (holds ≡ false) × (f ≡ record { check = check; place = place })) }
+{
+    if holds {
+        Ok(())
+    } else {
+        Err(Fault { check, place })
+    }
 }
 
 /// A range: a start, as a file offset or an RVA, and a length in bytes.

@@ -1,6 +1,6 @@
 //! Little-endian numbers at a place of a list of bytes.
 
-ghost use Rattle.std.specs.Prelude.{◌≡◌, ◌≤◌, ◌^◌, length};
+ghost use Rattle.std.specs.Prelude.{◌≡◌, ◌≤◌, ◌^◌, length, slice_index};
 ghost use Rattle.rtr_bytes.specs.Field.{field_at, u16_of, u32_of};
 
 use byteorder::{ByteOrder, LittleEndian};
@@ -42,6 +42,13 @@ pub fn u64_at(bytes: &[u8], at: u32) -> Option<u64>
     } else {
         None
     }
+}
+
+/// The byte at a file offset, and 0 where it passes the end.
+pub fn u8_or_zero(bytes: &[u8], at: u32) -> u8
+    ensures { result ≡ slice_index bytes.now at }
+{
+    bytes.get(at as usize).copied().unwrap_or(0)
 }
 
 /// The 16-bit number at a file offset, and 0 where its bytes pass the end.

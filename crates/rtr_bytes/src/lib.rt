@@ -1,8 +1,7 @@
-//! Little-endian fields by their place, compressed integers, places and faults of a file, and the lists of
-//! public records.
+//! Little-endian fields by their file offset, compressed integers, faults, and the list type of public records.
 //!
-//! Every reader of a file stands on this crate. A reading call takes at most 2^31 bytes, so that each place
-//! in them, and each place one field behind them, is a `u32`.
+//! Each crate that reads or writes a file depends on this one. A reading call takes at most 2^31 bytes, so that each
+//! offset in them, and each offset one field after their end, is a `u32`.
 #![tactic(auto)]
 
 mod compressed;
@@ -14,8 +13,8 @@ mod put;
 pub use compressed::{
     compressed_at, no_compressed_begins_another, put_compressed, shortest_compressed,
 };
-pub use fault::{Fault, NoMemory, ReadRefusal, Span};
-pub use field::{u16_at, u16_or_zero, u32_at, u32_or_zero, u64_at};
+pub use fault::{Fault, NoMemory, ReadRefusal, Span, ensure};
+pub use field::{u8_or_zero, u16_at, u16_or_zero, u32_at, u32_or_zero, u64_at};
 pub use list::Sequence;
 pub use put::put_u32;
 

@@ -5,6 +5,8 @@ ghost use Rattle.std.specs.Bool.{OnTrue, OnFalse};
 ghost use Rattle.byteorder.specs.Endian.{little_bytes};
 ghost use Rattle.rtr_bytes.specs.Field.{field_at};
 
+use byteorder::{ByteOrder, LittleEndian};
+
 /// Writes a 32-bit number at a file offset, lowest byte first. `false` exactly where its four bytes pass the
 /// end, and then nothing changes.
 pub fn put_u32(bytes: &mut [u8], at: u32, value: u32) -> bool
@@ -19,7 +21,7 @@ pub fn put_u32(bytes: &mut [u8], at: u32, value: u32) -> bool
     if at + 4 > bytes.len() {
         return false;
     }
-    bytes[at..at + 4].copy_from_slice(&value.to_le_bytes());
+    LittleEndian::write_u32(&mut bytes[at..at + 4], value);
     true
 }
 
