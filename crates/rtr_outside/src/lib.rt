@@ -18,6 +18,7 @@ mod real_files;
 mod real_sink;
 mod sink;
 mod sure;
+mod transfer;
 
 pub use files::{FILE_LIMIT, FileRefusal, Files};
 pub use gate::{Gate, OpenGate};
