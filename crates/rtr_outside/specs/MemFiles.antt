@@ -13,7 +13,7 @@ pub record FilesInMemory : Type 0 where
   pub files : FileMap
   -- the numbers, from 0, of the calls that fail
   pub fails : List ℕ
-  -- the number of the next call, which stands still at 2^64 - 1
+  -- the number of the next call, which stays at 2^64 - 1 once it is there
   pub calls : ℕ
   -- the calls that failed, in their order
   pub failed : List Call
