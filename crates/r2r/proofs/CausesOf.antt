@@ -24,7 +24,8 @@ read_missing : (contents : Option Contents) (name a : List ℕ) → IsKnownAs co
 read_missing None name a h k = k
 read_missing (Some files) name a h k = let e : Some a ≡ None = sym h ∙ k in cc
 
-long_file : (contents : Option Contents) (name b : List ℕ) → IsKnownLonger file_limit contents name → Exposes contents name b → file_limit < length b
+long_file : (contents : Option Contents) (name b : List ℕ) → IsKnownLonger file_limit contents name → Exposes contents name b
+    → file_limit < length b
 long_file None name b h k = absurd k
 long_file (Some files) name b h k =
     let e : Some h.0 ≡ Some b = sym h.1 ∙ k in

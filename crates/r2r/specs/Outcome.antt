@@ -30,9 +30,11 @@ pub data IsReply (contents : Option Contents) (old new : List Call) (name : List
   -- the read failed, as the failed calls show
   ReadFailed : new ≡ old ++ Read name ∷ [] → status ≡ 2 → text ≡ read_failed_line name → IsReply contents old new name status text
   -- the file is above the limit
-  TooLong : new ≡ old → IsKnownLonger file_limit contents name → status ≡ 4 → text ≡ too_long_line name → IsReply contents old new name status text
+  TooLong : new ≡ old → IsKnownLonger file_limit contents name → status ≡ 4 → text ≡ too_long_line name
+      → IsReply contents old new name status text
   -- the file was read
-  WasRead : new ≡ old → (bytes : List ℕ) → length bytes ≤ file_limit → IsKnownAs contents name bytes → IsFileReply name bytes (first_fault dump_checks bytes) status text → IsReply contents old new name status text
+  WasRead : new ≡ old → (bytes : List ℕ) → length bytes ≤ file_limit → IsKnownAs contents name bytes
+      → IsFileReply name bytes (first_fault dump_checks bytes) status text → IsReply contents old new name status text
 
 -- the status where the output had a fault: a refusal keeps its own
 abbrev pub faulted : ℕ → ℕ
@@ -61,5 +63,6 @@ DumpEnds written faults contents old new name before after result =
 -- the same of a file's bytes
 abbrev pub BytesEnd : {S : Type 0} → (S → Option (List ℕ)) → (S → ℕ) → List ℕ → List ℕ → S → S → ℕ → Type 0
 BytesEnd written faults name bytes before after result =
-    ((status : ℕ) × (text : List ℕ) × IsFileReply name bytes (first_fault dump_checks bytes) status text × Ends written faults status text before after result)
+    ((status : ℕ) × (text : List ℕ) × IsFileReply name bytes (first_fault dump_checks bytes) status text
+        × Ends written faults status text before after result)
     ⊎ ((result ≡ 7) × IsUntouched written faults before after)

@@ -2,6 +2,7 @@
 
 ghost use Rattle.std.specs.Prelude.{◌≡◌, ◌≤◌, MatchResult};
 ghost use Rattle.r2r.specs.Outcome.{Prints};
+ghost use Rattle.r2r.specs.Status.{code_of};
 ghost use Rattle.r2rdump.specs.Dump.{IsUntouched};
 
 use crate::status::Status;
@@ -21,8 +22,8 @@ pub(crate) fn print<S: Sink>(out: &mut S, line: &[u8])
 /// no memory for the line it answers that.
 pub(crate) fn refuse<S: Sink>(out: &mut S, line: Result<Text, NoMemory>, status: Status) -> Status
     ensures refused { MatchResult line
-        (λ text. Prints S.written S.faults text out.old out.new × (result ≡ status))
-        (λ _. (result ≡ Status.NoMemory) × IsUntouched S.written S.faults out.old out.new) }
+        (λ text. Prints S.written S.faults text out.old out.new × (code_of result ≡ code_of status))
+        (λ _. (code_of result ≡ 7) × IsUntouched S.written S.faults out.old out.new) }
     ensures never_falls { S.faults out.old ≤ S.faults out.new }
 {
     match line {

@@ -9,9 +9,8 @@ ghost use Rattle.r2r.specs.Program.{Runs, FindsNoMemory, words_of};
 
 use crate::status::Status;
 use crate::top::r2r;
-use rtr_bytes::NoMemory;
 use rtr_outside::{Files, Gate, Sink};
-use std::alloc::Global;
+use std::alloc::{AllocError, Global};
 use std::io::ErrorKind;
 use std::process::ExitCode;
 use std::thread::Threads;
@@ -51,7 +50,7 @@ pub(crate) fn run<R: Threads + Sync, F: Files, S: Sink, G: Gate>(
     match args {
         Ok(args) => match words_after_name(alloc, args) {
             Ok(words) => ExitCode::from(r2r(rt, alloc, &words, files, out, gate)),
-            Err(NoMemory) => ExitCode::from(Status::NoMemory),
+            Err(AllocError) => ExitCode::from(Status::NoMemory),
         },
         Err(error) => {
             if error.kind() == ErrorKind::OutOfMemory {
@@ -64,8 +63,8 @@ pub(crate) fn run<R: Threads + Sync, F: Files, S: Sink, G: Gate>(
 }
 
 /// The arguments without the program's name.
-fn words_after_name(alloc: Global, args: env::Args) -> Result<Vec<String>, NoMemory>
+fn words_after_name(alloc: Global, args: env::Args) -> Result<Vec<String>, AllocError>
     ensures { IfOk result (λ words. words.items ≡ drop 1 (into_iter_items args)) }
 {
-    Ok(args.skip(1).collect(alloc)?)
+    args.skip(1).collect(alloc)
 }

@@ -30,14 +30,17 @@ pub fn r2r<R: Threads + Sync, F: Files, S: Sink, G: Gate>(
 ) -> u8
     // The words are no command exactly where the usage line is printed.
     ensures usage { (result ≡ 1) ↔ (command_of (map string_bytes words.now) ≡ None) }
-    ensures usage_line { result ≡ 1 → Prints S.written S.faults usage_line out.old out.new × (F.failed_calls files.new ≡ F.failed_calls files.old) }
+    ensures usage_line { result ≡ 1 →
+        Prints S.written S.faults usage_line out.old out.new × (F.failed_calls files.new ≡ F.failed_calls files.old) }
 
     // A dump prints the reply to its file.
-    ensures dump { IfDump (command_of (map string_bytes words.now))
-        (λ name. DumpEnds S.written S.faults (F.contents files.old) (F.failed_calls files.old) (F.failed_calls files.new) name out.old out.new result) }
+    ensures dump { IfDump (command_of (map string_bytes words.now)) (λ name.
+        DumpEnds S.written S.faults (F.contents files.old) (F.failed_calls files.old) (F.failed_calls files.new)
+            name out.old out.new result) }
     // When each status comes, and what is its cause.
-    ensures causes { IfDump (command_of (map string_bytes words.now))
-        (λ name. DumpCauses S.written S.faults (F.contents files.old) (F.failed_calls files.old) (F.failed_calls files.new) name out.old out.new result) }
+    ensures causes { IfDump (command_of (map string_bytes words.now)) (λ name.
+        DumpCauses S.written S.faults (F.contents files.old) (F.failed_calls files.old) (F.failed_calls files.new)
+            name out.old out.new result) }
 
     ensures contents { F.contents files.new ≡ F.contents files.old }
     ensures never_falls { S.faults out.old ≤ S.faults out.new }

@@ -34,7 +34,8 @@ consumes_twice (Some x) (Some y) None bs cs p q = absurd q
 consumes_twice (Some x) (Some y) (Some z) bs cs p q = p ∙ ap (λ l. bs ++ l) q ∙ sym (append_assoc bs cs z)
 
 -- what was read so far and one more read that takes at most as many as are missing
-pub consumed_more : (a b c : Option (List ℕ)) (bytes : List ℕ) (more most : ℕ) → length bytes + more ≤ most → Consumes a b bytes → ConsumesAtMost more b c → ConsumesAtMost most a c
+pub consumed_more : (a b c : Option (List ℕ)) (bytes : List ℕ) (more most : ℕ) → length bytes + more ≤ most → Consumes a b bytes
+    → ConsumesAtMost more b c → ConsumesAtMost most a c
 consumed_more a b c bytes more most within so_far (bs, few, then) = (
   bytes ++ bs,
   omega (arith, length-append bytes bs),
