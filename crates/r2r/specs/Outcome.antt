@@ -64,5 +64,5 @@ DumpEnds written faults contents old new name before after result =
 abbrev pub BytesEnd : {S : Type 0} → (S → Option (List ℕ)) → (S → ℕ) → List ℕ → List ℕ → S → S → ℕ → Type 0
 BytesEnd written faults name bytes before after result =
     ((status : ℕ) × (text : List ℕ) × IsFileReply name bytes (first_fault dump_checks bytes) status text
-        × Ends written faults status text before after result)
+    × Ends written faults status text before after result)
     ⊎ ((result ≡ 7) × IsUntouched written faults before after)

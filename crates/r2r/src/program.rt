@@ -32,17 +32,17 @@ pub(crate) fn run<R: Threads + Sync, F: Files, S: Sink, G: Gate>(
     // The words are the arguments without the program's name.
     ensures ran { IfOk args (λ args.
         Runs S.written S.faults (F.contents files.old) (F.failed_calls files.old) (F.failed_calls files.new)
-            (words_of args) out.old out.new (exit_status result)
+        (words_of args) out.old out.new (exit_status result)
         ⊎ FindsNoMemory S.written S.faults (F.failed_calls files.old) (F.failed_calls files.new)
-            out.old out.new (exit_status result)) }
+        out.old out.new (exit_status result)) }
 
     // Arguments that are no text are no command.
     ensures no_text { IfErr args (λ error. is_want_of_memory (error_kind error) ≡ false →
         Runs S.written S.faults (F.contents files.old) (F.failed_calls files.old) (F.failed_calls files.new)
-            [] out.old out.new (exit_status result)) }
+        [] out.old out.new (exit_status result)) }
     ensures no_memory { IfErr args (λ error. is_want_of_memory (error_kind error) ≡ true →
         FindsNoMemory S.written S.faults (F.failed_calls files.old) (F.failed_calls files.new)
-            out.old out.new (exit_status result)) }
+        out.old out.new (exit_status result)) }
 
     ensures contents { F.contents files.new ≡ F.contents files.old }
     ensures never_falls { S.faults out.old ≤ S.faults out.new }

@@ -36,11 +36,11 @@ pub fn r2r<R: Threads + Sync, F: Files, S: Sink, G: Gate>(
     // A dump prints the reply to its file.
     ensures dump { IfDump (command_of (map string_bytes words.now)) (λ name.
         DumpEnds S.written S.faults (F.contents files.old) (F.failed_calls files.old) (F.failed_calls files.new)
-            name out.old out.new result) }
+        name out.old out.new result) }
     // When each status comes, and what is its cause.
     ensures causes { IfDump (command_of (map string_bytes words.now)) (λ name.
         DumpCauses S.written S.faults (F.contents files.old) (F.failed_calls files.old) (F.failed_calls files.new)
-            name out.old out.new result) }
+        name out.old out.new result) }
 
     ensures contents { F.contents files.new ≡ F.contents files.old }
     ensures never_falls { S.faults out.old ≤ S.faults out.new }

@@ -10,6 +10,9 @@ returns-in-Err-Malformed-clause-ends g c =
     let line = malformed_line c.args.name.now c.in-Err-Malformed.fault in
     let code = code_of c.refuse.result in
     let why = rw c.in-Err-Malformed.field-0-is at c.in-Err-Malformed.ensures.refused in
-    let ends = refuses written faults c.malformed.result line 2 c.dump_text.new.out c.refuse.new.out code c.malformed.ensures c.refuse.ensures.refused in
-    malformed_ends written faults c.args.name.now c.args.bytes.now c.in-Err-Malformed.fault c.args.out.now c.refuse.new.out code why.0
-        (since written faults 2 line c.args.out.now c.dump_text.new.out c.refuse.new.out code why.1 ends)
+    let before = c.args.out.now in
+    let mid = c.dump_text.new.out in
+    let after = c.refuse.new.out in
+    let ends = refuses written faults c.malformed.result line 2 mid after code c.malformed.ensures c.refuse.ensures.refused in
+    malformed_ends written faults c.args.name.now c.args.bytes.now c.in-Err-Malformed.fault before after code why.0
+    (since written faults 2 line before mid after code why.1 ends)

@@ -7,5 +7,6 @@ use Rattle.r2r.proofs.program.words_after_name.Goals as goal
 pub returns : goal.returns
 returns c =
     let source = c.skip.ensures.source in
-    items_from_collect _ c.collect.ensures.ran
-        (YieldsList-from_skip 1 (YieldsList-from_vec (into_iter_items c.args.args) (ap into_iter_items source) (ap into_iter_len source ∙ c.args.args.rest.ok.0)) c.skip.ensures.count)
+    let items = into_iter_items c.args.args in
+    let all = YieldsList-from_vec items (ap into_iter_items source) (ap into_iter_len source ∙ c.args.args.rest.ok.0) in
+    items_from_collect _ c.collect.ensures.ran (YieldsList-from_skip 1 all c.skip.ensures.count)
