@@ -1,2 +1,2 @@
-pub mod FileRead
+pub mod Endings
 pub mod CausesOf

@@ -3,7 +3,7 @@ use Rattle.std.specs.Prelude.{◌≡◌, ℕ, ◌==◌, List, [], ◌∷◌, ◌
 use Rattle.std.specs.List.{list_any}
 use Rattle.rtr_bytes.specs.declared.fault.Fault.{Fault}
 use Rattle.rtr_bytes.specs.Checks.{first_fault}
-use Rattle.rtr_outside.specs.Files.{Contents, Call, Read, IsToldAs, IsToldLonger, file_limit}
+use Rattle.rtr_outside.specs.Files.{Contents, Call, Read, IsKnownAs, IsKnownLonger, file_limit}
 use Rattle.rtr_outside.specs.Sink.{Appends, PrintsFront, Rose}
 use Rattle.r2r.specs.Command.{Command, Dump}
 use Rattle.r2rdump.specs.Dump.{dump_checks, dump_text}
@@ -17,18 +17,18 @@ IfDump (Some (Dump name)) P = P name
 abbrev pub IsOneOf : List ℕ → ℕ → Type 0
 IsOneOf statuses result = IsTrue (list_any (λ status. status == result) statuses)
 
--- the file was read, as the files tell it, and this holds of its bytes
+-- the file was read, as the files expose it, and this holds of its bytes
 abbrev pub OfBytes : Option Contents → List ℕ → (List ℕ → Type 0) → Type 0
-OfBytes contents name P = (bytes : List ℕ) × IsToldAs contents name bytes × P bytes
+OfBytes contents name P = (bytes : List ℕ) × IsKnownAs contents name bytes × P bytes
 
--- the files tell that the name has these bytes; that there is no such name
-abbrev pub Tells : Option Contents → List ℕ → List ℕ → Type 0
-Tells None name bytes = ⊥
-Tells (Some files) name bytes = files name ≡ Some bytes
+-- the files expose that the name has these bytes; that there is no such name
+abbrev pub Exposes : Option Contents → List ℕ → List ℕ → Type 0
+Exposes None name bytes = ⊥
+Exposes (Some files) name bytes = files name ≡ Some bytes
 
-abbrev pub TellsNone : Option Contents → List ℕ → Type 0
-TellsNone None name = ⊥
-TellsNone (Some files) name = files name ≡ None
+abbrev pub ExposesNone : Option Contents → List ℕ → Type 0
+ExposesNone None name = ⊥
+ExposesNone (Some files) name = files name ≡ None
 
 -- what a dump of a file with these bytes may end with, where no read fails: want of memory is always among it
 abbrev pub statuses_by_fault : Option Fault → List ℕ
@@ -38,22 +38,27 @@ statuses_by_fault (Some fault) = 3 ∷ 7 ∷ []
 abbrev pub statuses_of : List ℕ → List ℕ
 statuses_of bytes = if nat_lt file_limit (length bytes) then 4 ∷ 7 ∷ [] else statuses_by_fault (first_fault dump_checks bytes)
 
-pub record DumpCauses {S : Type 0} (written : S → Option (List ℕ)) (faults : S → ℕ) (contents : Option Contents) (old new : List Call) (name : List ℕ) (before after : S) (result : ℕ) : Type 0 where
+pub record DumpCauses {S : Type 0} (written : S → Option (List ℕ)) (faults : S → ℕ) (contents : Option Contents) (old new : List Call)
+    (name : List ℕ) (before after : S) (result : ℕ) : Type 0 where
   pub status : IsOneOf (0 ∷ 2 ∷ 3 ∷ 4 ∷ 5 ∷ 7 ∷ []) result
   -- 0: no check fails, and the whole text was written
-  pub dumped : result ≡ 0 → OfBytes contents name (λ bytes. (first_fault dump_checks bytes ≡ None) × Appends (dump_text name bytes) (written before) (written after))
+  pub dumped : result ≡ 0 → OfBytes contents name (λ bytes.
+      (first_fault dump_checks bytes ≡ None) × Appends (dump_text name bytes) (written before) (written after))
   -- 2: the failed calls gained the read of this file
   pub read_failed : result ≡ 2 → (new ≡ old ++ Read name ∷ []) × Prints written faults (read_failed_line name) before after
   -- 3: a check fails, and the line names the first fault
-  pub malformed : result ≡ 3 → OfBytes contents name (λ bytes. (fault : Fault) × (first_fault dump_checks bytes ≡ Some fault) × Prints written faults (malformed_line name fault) before after)
+  pub malformed : result ≡ 3 → OfBytes contents name (λ bytes.
+      (fault : Fault) × (first_fault dump_checks bytes ≡ Some fault)
+      × Prints written faults (malformed_line name fault) before after)
   -- 4: the file is above the limit
-  pub too_long : result ≡ 4 → IsToldLonger file_limit contents name × Prints written faults (too_long_line name) before after
-  -- 5: the output had a fault while the text was written, and took a front of it
-  pub write_fault : result ≡ 5 → Rose (faults before) (faults after) × OfBytes contents name (λ bytes. (first_fault dump_checks bytes ≡ None) × PrintsFront written (dump_text name bytes) before after)
+  pub too_long : result ≡ 4 → IsKnownLonger file_limit contents name × Prints written faults (too_long_line name) before after
+  -- 5: the output had a fault while the text was written, and took a prefix of it
+  pub write_fault : result ≡ 5 → Rose (faults before) (faults after) × OfBytes contents name (λ bytes.
+      (first_fault dump_checks bytes ≡ None) × PrintsFront written (dump_text name bytes) before after)
   -- 7: nothing was written, and the output had no fault
   pub no_memory : result ≡ 7 → (written after ≡ written before) × (faults after ≡ faults before)
-  -- where the files tell and no read failed, the file's bytes decide
-  pub told : (bytes : List ℕ) → Tells contents name bytes → new ≡ old → IsOneOf (statuses_of bytes) result
-  pub missing : TellsNone contents name → IsOneOf (2 ∷ 7 ∷ []) result
+  -- where the files expose their bytes and no read failed, those of the file decide
+  pub exposed : (bytes : List ℕ) → Exposes contents name bytes → new ≡ old → IsOneOf (statuses_of bytes) result
+  pub missing : ExposesNone contents name → IsOneOf (2 ∷ 7 ∷ []) result
   -- the failed calls gain nothing, or this read, and then the status says so
   pub failed_calls : (new ≡ old) ⊎ ((new ≡ old ++ Read name ∷ []) × IsOneOf (2 ∷ 7 ∷ []) result)

@@ -1,3 +1,5 @@
+pub mod Status
 pub mod Command
 pub mod Outcome
 pub mod Causes
+pub mod Program

@@ -1,8 +1,8 @@
--- What the top call leaves behind it: lines of refusals, what came to the output, and what a file was read as.
+-- What the top call leaves: lines of refusals, what the output took, and what a file was read as.
 use Rattle.std.specs.Prelude.{◌≡◌, ℕ, zero, suc, ◌≤◌, List, [], ◌∷◌, ◌++◌, ◌⊎◌, length, codes, decimal, Option, Some, None}
 use Rattle.rtr_bytes.specs.declared.fault.Fault.{Fault}
 use Rattle.rtr_bytes.specs.Checks.{first_fault}
-use Rattle.rtr_outside.specs.Files.{Contents, Call, Read, IsToldAs, IsToldLonger, file_limit}
+use Rattle.rtr_outside.specs.Files.{Contents, Call, Read, IsKnownAs, IsKnownLonger, file_limit}
 use Rattle.rtr_outside.specs.Sink.{Appends, PrintsFront, Rose}
 use Rattle.r2rdump.specs.Text.{printed_name, newline}
 use Rattle.r2rdump.specs.Dump.{dump_checks, dump_text, IsUntouched}
@@ -25,25 +25,27 @@ abbrev pub IsFileReply : List ℕ → List ℕ → Option Fault → ℕ → List
 IsFileReply name bytes None status text = (status ≡ 0) × (text ≡ dump_text name bytes)
 IsFileReply name bytes (Some fault) status text = (status ≡ 3) × (text ≡ malformed_line name fault)
 
--- The status and the text of a dump: what the files tell, and the failed calls before and after, decide.
+-- The status and the text of a dump: the bytes that the files expose, and the failed calls before and after, decide.
 pub data IsReply (contents : Option Contents) (old new : List Call) (name : List ℕ) (status : ℕ) (text : List ℕ) : Type 0 where
   -- the read failed, as the failed calls show
   ReadFailed : new ≡ old ++ Read name ∷ [] → status ≡ 2 → text ≡ read_failed_line name → IsReply contents old new name status text
   -- the file is above the limit
-  TooLong : new ≡ old → IsToldLonger file_limit contents name → status ≡ 4 → text ≡ too_long_line name → IsReply contents old new name status text
+  TooLong : new ≡ old → IsKnownLonger file_limit contents name → status ≡ 4 → text ≡ too_long_line name
+      → IsReply contents old new name status text
   -- the file was read
-  WasRead : new ≡ old → (bytes : List ℕ) → length bytes ≤ file_limit → IsToldAs contents name bytes → IsFileReply name bytes (first_fault dump_checks bytes) status text → IsReply contents old new name status text
+  WasRead : new ≡ old → (bytes : List ℕ) → length bytes ≤ file_limit → IsKnownAs contents name bytes
+      → IsFileReply name bytes (first_fault dump_checks bytes) status text → IsReply contents old new name status text
 
 -- the status where the output had a fault: a refusal keeps its own
 abbrev pub faulted : ℕ → ℕ
 faulted zero = 5
 faulted (suc n) = suc n
 
--- the output had a fault and took a front of the text
+-- the output had a fault and took a prefix of the text
 abbrev pub CutsShort : {S : Type 0} → (S → Option (List ℕ)) → (S → ℕ) → List ℕ → S → S → Type 0
 CutsShort written faults text old new = Rose (faults old) (faults new) × PrintsFront written text old new
 
--- the output took the text whole, or had a fault and took a front of it
+-- the output took the text whole, or had a fault and took a prefix of it
 abbrev pub Prints : {S : Type 0} → (S → Option (List ℕ)) → (S → ℕ) → List ℕ → S → S → Type 0
 Prints written faults text old new = Appends text (written old) (written new) ⊎ CutsShort written faults text old new
 
@@ -61,5 +63,6 @@ DumpEnds written faults contents old new name before after result =
 -- the same of a file's bytes
 abbrev pub BytesEnd : {S : Type 0} → (S → Option (List ℕ)) → (S → ℕ) → List ℕ → List ℕ → S → S → ℕ → Type 0
 BytesEnd written faults name bytes before after result =
-    ((status : ℕ) × (text : List ℕ) × IsFileReply name bytes (first_fault dump_checks bytes) status text × Ends written faults status text before after result)
+    ((status : ℕ) × (text : List ℕ) × IsFileReply name bytes (first_fault dump_checks bytes) status text
+    × Ends written faults status text before after result)
     ⊎ ((result ≡ 7) × IsUntouched written faults before after)

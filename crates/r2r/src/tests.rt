@@ -1,8 +1,9 @@
 //! Examples, and a broken file for each check.
 
 use super::*;
-use rtr_outside::{FILE_LIMIT, MemFiles, MemSink, OpenGate, SureFiles, SureSink};
+use rtr_outside::{FILE_LIMIT, MemFiles, MemSink, SureFiles, SureSink};
 use std::alloc::Global;
+use std::io::ErrorKind;
 use std::process::Abort;
 use std::test::Fail;
 use std::thread::Threads;
@@ -73,7 +74,7 @@ import 0 rva 00001118 size 00000010 flags 0001 type 0 entry 8 slots 2
 import 1 rva 00001128 size 00000008 flags 0000 type 0 entry 8 slots 1
 ";
 
-/// Another version, and section types up to 118, of which those from 107 on stand in no section.
+/// Another version, and section types up to 118, of which those from 107 on are in no section.
 const LATER: &str = "@644 06000200 03 @680 6d @692 73 @696 ffffffff @704 76 @708 ffffffff";
 
 const LATER_TEXT: &str = "file T 1024
@@ -112,7 +113,7 @@ import 2 rva 00001000 size 00000008 flags 0000 type 255 entry 0 slots 0
 const USAGE_LINE: &str =
     "usage: r2r compile IN -o OUT [--ref F].. [--fields cell|burn] | run IMAGE [--ref F].. [--entry T::M] [--worker A,B].. [--ticks N] [--cells] | dump FILE | big N\n";
 
-/// A file of zeros with pieces written over it in order: a place behind `@`, and bytes in hexadecimal.
+/// A file of zeros with pieces written over it in order: a place after `@`, and then bytes in hexadecimal.
 pub(crate) fn file_of(alloc: Global, len: usize, pieces: &[&str]) -> Result<Vec<u8>, Fail> {
     let mut bytes = vec![in alloc; 0u8; len]?;
     for piece in pieces {
@@ -127,7 +128,7 @@ pub(crate) fn file_of(alloc: Global, len: usize, pieces: &[&str]) -> Result<Vec<
     Ok(bytes)
 }
 
-/// Writes bytes from a place on, and answers the place behind them.
+/// Writes bytes from a place on, and answers the place after them.
 fn put_hex(alloc: Global, bytes: &mut [u8], mut at: usize, word: &str) -> Result<usize, Fail> {
     for byte in &hex::decode(alloc, word)? {
         if let Some(old) = bytes.get_mut(at) {
@@ -172,6 +173,18 @@ pub(crate) fn expect<R: Threads + Sync + Abort>(
     Ok(())
 }
 
+/// Dumps the least file with some bytes written over it, and expects a text.
+fn expect_text<R: Threads + Sync + Abort>(
+    rt: &R,
+    alloc: Global,
+    front: &str,
+    changes: &str,
+    text: &str,
+) -> Result<(), Fail> {
+    let bytes = file_of(alloc, 1024, &[LEAST, front, changes])?;
+    expect(rt, alloc, "dump T", bytes, 0, text)
+}
+
 #[test]
 fn words_that_are_no_command(rt: HostRuntime) -> Result<(), Fail> {
     let alloc = rt.alloc();
@@ -189,50 +202,18 @@ fn words_that_are_no_command(rt: HostRuntime) -> Result<(), Fail> {
 #[test]
 fn well_formed_files(rt: HostRuntime) -> Result<(), Fail> {
     let alloc = rt.alloc();
-    expect(
-        &rt,
-        alloc,
-        "dump T",
-        file_of(alloc, 1024, &[LEAST])?,
-        0,
-        LEAST_TEXT,
-    )?;
-    expect(
-        &rt,
-        alloc,
-        "dump T",
-        file_of(alloc, 1024, &[LEAST, FOREIGN])?,
-        0,
-        FOREIGN_TEXT,
-    )?;
-    expect(
-        &rt,
-        alloc,
-        "dump T",
-        file_of(alloc, 1024, &[LEAST, OWN])?,
-        0,
-        OWN_TEXT,
-    )
-}
-
-/// Dumps the image with some bytes written over it, and expects a text.
-fn expect_image<R: Threads + Sync + Abort>(
-    rt: &R,
-    alloc: Global,
-    changes: &str,
-    text: &str,
-) -> Result<(), Fail> {
-    let bytes = file_of(alloc, 1024, &[LEAST, IMAGE, changes])?;
-    expect(rt, alloc, "dump T", bytes, 0, text)
-}
-
-#[test]
-fn images(rt: HostRuntime) -> Result<(), Fail> {
-    let alloc = rt.alloc();
-    expect_image(&rt, alloc, "", IMAGE_TEXT)?;
-    expect_image(&rt, alloc, RENAMED, RENAMED_TEXT)?;
-    expect_image(&rt, alloc, LATER, LATER_TEXT)?;
-    expect_image(&rt, alloc, CELLS, CELLS_TEXT)
+    for (front, changes, text) in [
+        ("", "", LEAST_TEXT),
+        ("", FOREIGN, FOREIGN_TEXT),
+        ("", OWN, OWN_TEXT),
+        (IMAGE, "", IMAGE_TEXT),
+        (IMAGE, RENAMED, RENAMED_TEXT),
+        (IMAGE, LATER, LATER_TEXT),
+        (IMAGE, CELLS, CELLS_TEXT),
+    ] {
+        expect_text(&rt, alloc, front, changes, text)?;
+    }
+    Ok(())
 }
 
 /// Changes of the least file, each with the check that fails then and its place.
@@ -286,80 +267,45 @@ const BROKEN_IMAGES: &str = "@676 29 = check 21 at 676
 @756 20 = check 66 at 756
 @756 20 @846 08 = check 65 at 846";
 
-/// Expects the fault of each row of changes of a file.
-fn expect_faults<R: Threads + Sync + Abort>(
+/// Cut files: the length, the changes, and the check that fails then. The last is PE32, and its three section headers
+/// end after the cut.
+const CUT: &str = "0 = check 1 at 0
+63 = check 1 at 63
+100 = check 6 at 84
+400 @60 80 @128 50450000 @134 03 @148 e0 @152 0b01 @244 10 = check 10 at 134";
+
+/// Dumps the least file with changes over it, and expects the line of its fault.
+fn expect_fault<R: Threads + Sync + Abort>(
     rt: &R,
     alloc: Global,
-    front: &str,
-    rows: &str,
+    len: usize,
+    changes: [&str; 2],
+    fault: &str,
 ) -> Result<(), Fail> {
-    for row in rows.split('\n') {
-        let (change, fault) = row.split_once(" = ").ok_or("a row has two parts")?;
-        let text = format!(in alloc; "malformed: T {fault}\n")?;
-        expect(
-            rt,
-            alloc,
-            "dump T",
-            file_of(alloc, 1024, &[LEAST, front, change])?,
-            3,
-            text.as_str(),
-        )?;
-    }
-    Ok(())
+    let bytes = file_of(alloc, len, &[LEAST, changes[0], changes[1]])?;
+    let text = format!(in alloc; "malformed: T {fault}\n")?;
+    expect(rt, alloc, "dump T", bytes, 3, text.as_str())
 }
 
 #[test]
 fn broken_files(rt: HostRuntime) -> Result<(), Fail> {
     let alloc = rt.alloc();
-    expect_faults(&rt, alloc, "", BROKEN)?;
-    expect_faults(&rt, alloc, IMAGE, BROKEN_IMAGES)
+    for (front, rows) in [("", BROKEN), (IMAGE, BROKEN_IMAGES)] {
+        for row in rows.split('\n') {
+            let (change, fault) = row.split_once(" = ").ok_or("a row has two parts")?;
+            expect_fault(&rt, alloc, 1024, [front, change], fault)?;
+        }
+    }
+    for row in CUT.split('\n') {
+        let (file, fault) = row.split_once(" = ").ok_or("a row has two parts")?;
+        let (len, change) = file.split_once(' ').unwrap_or((file, ""));
+        expect_fault(&rt, alloc, len.parse::<usize>()?, ["", change], fault)?;
+    }
+    Ok(())
 }
 
 #[test]
-fn files_that_are_cut(rt: HostRuntime) -> Result<(), Fail> {
-    let alloc = rt.alloc();
-    expect(
-        &rt,
-        alloc,
-        "dump T",
-        Vec::new(alloc),
-        3,
-        "malformed: T check 1 at 0\n",
-    )?;
-    expect(
-        &rt,
-        alloc,
-        "dump T",
-        file_of(alloc, 63, &[LEAST])?,
-        3,
-        "malformed: T check 1 at 63\n",
-    )?;
-    expect(
-        &rt,
-        alloc,
-        "dump T",
-        file_of(alloc, 100, &[LEAST])?,
-        3,
-        "malformed: T check 6 at 84\n",
-    )?;
-    // PE32, whose three section headers end behind the cut.
-    let narrow = file_of(
-        alloc,
-        400,
-        &["@0 4d5a @60 80 @128 50450000 @134 03 @148 e0 @152 0b01 @244 10"],
-    )?;
-    expect(
-        &rt,
-        alloc,
-        "dump T",
-        narrow,
-        3,
-        "malformed: T check 10 at 134\n",
-    )
-}
-
-#[test]
-fn files_that_are_not_read(rt: HostRuntime) -> Result<(), Fail> {
+fn files_around_the_limit(rt: HostRuntime) -> Result<(), Fail> {
     let alloc = rt.alloc();
     expect(
         &rt,
@@ -369,8 +315,12 @@ fn files_that_are_not_read(rt: HostRuntime) -> Result<(), Fail> {
         2,
         "read failed: a?b\n",
     )?;
-    let long = vec![in alloc; 0u8; FILE_LIMIT + 1]?;
-    expect(&rt, alloc, "dump T", long, 4, "refused: TooLong T\n")
+    let mut bytes = file_of(alloc, FILE_LIMIT, &[LEAST])?;
+    let text = LEAST_TEXT.strip_prefix("file T 1024\n").unwrap_or("");
+    let text = format!(in alloc; "file T 16777216\n{text}")?;
+    expect(&rt, alloc, "dump T", bytes.clone()?, 0, text.as_str())?;
+    bytes.push(0)?;
+    expect(&rt, alloc, "dump T", bytes, 4, "refused: TooLong T\n")
 }
 
 #[test]
@@ -385,7 +335,7 @@ fn outputs_that_fail(rt: HostRuntime) -> Result<(), Fail> {
     let mut short = MemSink::new(alloc, 4, Vec::new(alloc))?;
     assert_eq!(rt; r2r(&rt, alloc, &[], &mut files, &mut short, &OpenGate), 1);
     assert_eq!(rt; short.bytes(), b"usag".as_slice());
-    // Files that tell nothing read a missing name as empty.
+    // Files that expose nothing read a missing name as empty.
     let mut sure = SureFiles::new(alloc, Vec::new(alloc));
     assert_eq!(rt;
         r2r(
@@ -399,4 +349,39 @@ fn outputs_that_fail(rt: HostRuntime) -> Result<(), Fail> {
         3
     );
     Ok(())
+}
+
+/// Runs the program with these arguments over a file T, and expects an exit code and what is written.
+fn expect_run<R: Threads + Sync + Abort>(
+    rt: &R,
+    alloc: Global,
+    args: io::Result<env::Args>,
+    code: u8,
+    text: &str,
+) -> Result<(), Fail> {
+    let mut files = one_file(alloc, "T", file_of(alloc, 1024, &[LEAST])?)?;
+    let mut out = MemSink::new(alloc, 2_000, Vec::new(alloc))?;
+    let ended = program::run(rt, alloc, args, &mut files, &mut out, &OpenGate);
+    assert_eq!(rt; ended, ExitCode::from(code));
+    assert_eq!(rt; out.bytes(), text.as_bytes());
+    Ok(())
+}
+
+#[test]
+fn arguments_of_the_program(rt: HostRuntime) -> Result<(), Fail> {
+    let alloc = rt.alloc();
+    for (line, code, text) in [
+        ("r2r dump T", 0, LEAST_TEXT),
+        ("r2r dump T T", 1, USAGE_LINE),
+        ("r2r dump U", 2, "read failed: U\n"),
+        ("r2r", 1, USAGE_LINE),
+        ("", 1, USAGE_LINE),
+    ] {
+        let args = words_of(alloc, line)?.into_iter();
+        expect_run(&rt, alloc, Ok(args), code, text)?;
+    }
+    let no_text = Err(io::Error::from(ErrorKind::InvalidData));
+    expect_run(&rt, alloc, no_text, 1, USAGE_LINE)?;
+    let no_memory = Err(io::Error::from(ErrorKind::OutOfMemory));
+    expect_run(&rt, alloc, no_memory, 7, "")
 }

@@ -1,4 +1,4 @@
-//! Images that are written from plans, laid into a PE file behind the least one, and dumped.
+//! Images that are written from plans, laid into a PE file after the least one, and dumped.
 
 ghost use Rattle.std.specs.Prelude.{◌≡◌, ◌≤◌, ◌^◌, length, None};
 ghost use Rattle.rtr_bytes.specs.Checks.{first_fault};
@@ -196,7 +196,7 @@ fn functions(alloc: Global, ranges: &[(u32, u32)]) -> Result<Sequence<Function>,
     Ok(Sequence::from_vec(functions))
 }
 
-/// What `.r2rdat` has: the part, and behind it the input's CLI header, for an image that isn't of CIL alone, with the
+/// What `.r2rdat` has: the part, and after it the input's CLI header, for an image that isn't of CIL alone, with the
 /// part's header.
 fn dat(alloc: Global, bytes: &[u8], input: &Pe, written: &Written) -> Result<Vec<u8>, Fail> {
     let start = input.cli().start as usize;
@@ -212,8 +212,8 @@ fn dat(alloc: Global, bytes: &[u8], input: &Pe, written: &Written) -> Result<Vec
     Ok(dat)
 }
 
-/// The image of a plan and some code behind an input.
-fn image_behind(
+/// The image of a plan and some code, after an input's sections.
+fn image_after(
     alloc: Global,
     input: &Pe,
     bytes: &[u8],
@@ -237,7 +237,7 @@ fn image_behind(
     Ok(write_pe(alloc, input, bytes, &dat, cod, cli_at)?)
 }
 
-/// The image of a plan and some code behind the least file.
+/// The image of a plan and some code, after the sections of the least file.
 fn image(alloc: Global, plan: &Image, cod: &[u8]) -> Result<Vec<u8>, Fail> {
     let least = file_of(alloc, 1024, &[LEAST])?;
     let bytes = least.as_slice();
@@ -245,7 +245,7 @@ fn image(alloc: Global, plan: &Image, cod: &[u8]) -> Result<Vec<u8>, Fail> {
         return Err("it has 1,024 bytes")?;
     }
     match Pe::read(alloc, bytes) {
-        Ok(input) => image_behind(alloc, &input, bytes, plan, cod),
+        Ok(input) => image_after(alloc, &input, bytes, plan, cod),
         Err(_) => Err("it is well formed")?,
     }
 }

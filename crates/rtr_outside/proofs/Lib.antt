@@ -1,3 +1,3 @@
 pub mod NamedLemmas
-mod RealLemmas
+mod TransferLemmas
 mod Written

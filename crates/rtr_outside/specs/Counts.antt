@@ -1,4 +1,4 @@
--- Counts that stand still at their type's end.
+-- Counts that stay at their type's last value.
 use Rattle.std.specs.Prelude.{ℕ, ◌+◌, ◌-◌, ◌^◌, min}
 
 -- one more, up to 2^64 - 1

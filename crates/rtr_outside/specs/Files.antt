@@ -1,4 +1,4 @@
--- What files are seen as: the bytes of each name, where they tell them, and the calls that failed.
+-- What files are seen as: the bytes of each name, where they expose them, and the calls that failed.
 use Rattle.std.specs.Prelude.{◌≡◌, ◌≢◌, ℕ, ◌<◌, List, [], ◌∷◌, ◌++◌, length, Option, Some, None, Result, Ok, Err}
 use Rattle.rtr_outside.specs.declared.files.FileRefusal.{FileRefusal}
 use Rattle.rtr_outside.specs.declared.files.FileRefusal.TheVariants.{Failed, TooLong, NoMemory}
@@ -23,17 +23,17 @@ calls_after call (Err Failed) calls = calls ++ call ∷ []
 calls_after call (Err TooLong) calls = calls
 calls_after call (Err NoMemory) calls = calls
 
--- where the files tell, the name has these bytes
-abbrev pub IsToldAs : Option Contents → List ℕ → List ℕ → Type 0
-IsToldAs None name bytes = Unit {0}
-IsToldAs (Some files) name bytes = files name ≡ Some bytes
+-- where the files expose their bytes, the name has these
+abbrev pub IsKnownAs : Option Contents → List ℕ → List ℕ → Type 0
+IsKnownAs None name bytes = Unit {0}
+IsKnownAs (Some files) name bytes = files name ≡ Some bytes
 
--- where the files tell, the name has more than this many bytes
-abbrev pub IsToldLonger : ℕ → Option Contents → List ℕ → Type 0
-IsToldLonger limit None name = Unit {0}
-IsToldLonger limit (Some files) name = (bytes : List ℕ) × (files name ≡ Some bytes) × (limit < length bytes)
+-- where the files expose their bytes, the name has more than this many
+abbrev pub IsKnownLonger : ℕ → Option Contents → List ℕ → Type 0
+IsKnownLonger limit None name = Unit {0}
+IsKnownLonger limit (Some files) name = (bytes : List ℕ) × (files name ≡ Some bytes) × (limit < length bytes)
 
--- the files tell as before or tell neither before nor after, and every other name has what it had
+-- the files expose their bytes both before and after or neither, and every other name has what it had
 abbrev pub LeavesOthers : List ℕ → Option Contents → Option Contents → Type 0
 LeavesOthers name None None = Unit {0}
 LeavesOthers name (Some old) (Some new) = (other : List ℕ) → other ≢ name → new other ≡ old other

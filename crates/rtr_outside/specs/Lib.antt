@@ -5,6 +5,6 @@ pub mod Counts
 pub mod Named
 pub mod MemFiles
 pub mod MemSink
-pub mod RealFiles
+pub mod Transfer
 pub mod RealSink
 pub mod Sure

@@ -13,7 +13,7 @@ pub record FilesInMemory : Type 0 where
   pub files : FileMap
   -- the numbers, from 0, of the calls that fail
   pub fails : List ℕ
-  -- the number of the next call, which stands still at 2^64 - 1
+  -- the number of the next call, which stays at 2^64 - 1 once it is there
   pub calls : ℕ
   -- the calls that failed, in their order
   pub failed : List Call
@@ -60,7 +60,8 @@ call_code =
 
 abbrev pub files_code : Coded FilesInMemory
 files_code =
-    code_by ((FileMap × List ℕ) × (ℕ × List Call)) (coded× (coded× file_map_code (coded_list coded_ℕ)) (coded× coded_ℕ (coded_list call_code)))
+    code_by ((FileMap × List ℕ) × (ℕ × List Call))
+        (coded× (coded× file_map_code (coded_list coded_ℕ)) (coded× coded_ℕ (coded_list call_code)))
     (λ m. ((m.files, m.fails), (m.calls, m.failed)))
     (λ p. record { files = p.0.0; fails = p.0.1; calls = p.1.0; failed = p.1.1 })
     (λ _. refl)

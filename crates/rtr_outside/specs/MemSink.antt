@@ -8,9 +8,9 @@ pub record SinkInMemory : Type 0 where
   pub room : ℕ
   -- the numbers, from 0, of the calls that fail
   pub fails : List ℕ
-  -- the number of the next call, which stands still at 2^64 - 1
+  -- the number of the next call, which stays at 2^64 - 1 once it is there
   pub calls : ℕ
-  -- the count of faults, which stands still at 2^64 - 1
+  -- the count of faults, which stays at 2^64 - 1 once it is there
   pub faults : ℕ
 
 -- how many bytes still fit

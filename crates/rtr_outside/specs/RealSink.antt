@@ -5,7 +5,7 @@ use Rattle.std.specs.Coded.{Coded, code_by, coded×, coded_ℕ}
 pub record SinkOver (W : Type 0) : Type 0 where
   -- the writer
   pub writer : W
-  -- the count of faults, which stands still at 2^64 - 1
+  -- the count of faults, which stays at 2^64 - 1 once it is there
   pub faults : ℕ
 
 -- it is stored as the pair of its fields

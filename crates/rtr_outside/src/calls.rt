@@ -52,7 +52,7 @@ impl FailedCalls {
         }
     }
 
-    /// Enters a call behind the others.
+    /// Enters a call after the others.
     pub(crate) fn enter(
         &mut self,
         alloc: Global,

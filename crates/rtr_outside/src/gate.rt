@@ -1,6 +1,6 @@
 //! The moment before a call cell is bound.
 
-/// Is told of each binding of a call cell.
+/// Is called before each binding of a call cell.
 pub trait Gate: Sync {
     /// Called by a worker, numbered from 0, before each binding of a call cell. It changes nothing that a
     /// contract sees.

@@ -3,9 +3,9 @@
 //! Code that is generic over these traits sees the outside by their ghost members alone. A failed call is one
 //! that the object itself has recorded, so such code cannot make one up.
 //!
-//! There are three of each: [`MemFiles`] and [`MemSink`] in memory, which tell their bytes and fail as they are
-//! told; [`SureFiles`] and [`SureSink`], which never fail and tell nothing; and [`RealFiles`] and [`RealSink`]
-//! of the system, which tell nothing but their failed calls and faults.
+//! There are three of each: [`MemFiles`] and [`MemSink`] in memory, which expose their bytes and of which chosen
+//! calls fail; [`SureFiles`] and [`SureSink`], which never fail and expose no bytes; and [`RealFiles`] and
+//! [`RealSink`] of the system, which expose no bytes, and record their failed calls and count their faults.
 #![tactic(auto)]
 
 mod calls;
@@ -18,6 +18,7 @@ mod real_files;
 mod real_sink;
 mod sink;
 mod sure;
+mod transfer;
 
 pub use files::{FILE_LIMIT, FileRefusal, Files};
 pub use gate::{Gate, OpenGate};

@@ -1,8 +1,8 @@
-//! Files in memory that tell their bytes, and fail as they are told.
+//! Files in memory that expose their bytes, and of which chosen calls fail.
 
 ghost use Rattle.std.specs.Prelude.{◌≡◌, ◌≢◌, ◌≤◌, ◌↔◌, [], ◌∷◌, ◌++◌, Some, if◌then◌else◌, is_ok, length, IsTrue, OnOk, OnErr, IfOk, IsErrOf};
 ghost use Rattle.std.specs.Option.{option_copied};
-ghost use Rattle.rtr_outside.specs.Files.{Read, Write, calls_after, IsToldLonger};
+ghost use Rattle.rtr_outside.specs.Files.{Read, Write, calls_after, IsKnownLonger};
 ghost use Rattle.rtr_outside.specs.Named.{bytes_of, with_file, file_map};
 ghost use Rattle.rtr_outside.specs.Calls.{call};
 ghost use Rattle.rtr_outside.specs.Counts.{one_more};
@@ -15,7 +15,7 @@ use rtr_bytes::NoMemory;
 use std::alloc::Global;
 use std::marker::Model;
 
-/// Files in memory. They tell the bytes of each name.
+/// Files in memory. They expose the bytes of each name.
 ///
 /// Calls are numbered from 0, reads and writes together. A call that finds no memory changes nothing, and
 /// the next one has its number.
@@ -98,13 +98,14 @@ impl Files for MemFiles {
 
     ghost failed_calls = { λ m. m.failed };
 
-    /// Fails exactly where its number is one of those that fail, or there is no such name.
+    /// The bytes of a name. `Failed` comes exactly where the call's number is one of those that fail or there is no
+    /// such name, `TooLong` where it has more than [`FILE_LIMIT`] bytes, and `NoMemory` where memory is refused.
     fn read(&mut self, name: &str) -> Result<Vec<u8>, FileRefusal>
         ensures fails { FailsExactlyWhere (ReadFails self.old name.now) result }
         ensures bytes { IfOk result (λ bytes. bytes_of self.old.files name.now ≡ Some bytes.items) }
         ensures bounded { IfOk result (λ bytes. length bytes.items ≤ FILE_LIMIT) }
         ensures too_long { IsErrOf result FileRefusal.TooLong →
-            IsToldLonger FILE_LIMIT (Some (bytes_of self.old.files)) name.now }
+            IsKnownLonger FILE_LIMIT (Some (bytes_of self.old.files)) name.now }
 
         // It is counted, and recorded where it fails. The files are as before.
         ensures after { self.new ≡ record self.old {
@@ -130,7 +131,8 @@ impl Files for MemFiles {
         Ok(bytes)
     }
 
-    /// Fails exactly where its number is one of those that fail. After a refusal every name has what it had.
+    /// Gives a name these bytes. `Failed` comes exactly where the call's number is one of those that fail, and
+    /// `NoMemory` where memory is refused. After a refusal every name has what it had.
     fn write(&mut self, name: &str, bytes: &[u8]) -> Result<(), FileRefusal>
         ensures fails { FailsExactlyWhere (IsToFail self.old) result }
         ensures not_too_long { result ≢ Err FileRefusal.TooLong }

@@ -1,4 +1,4 @@
-//! A sink in memory that tells its bytes, and fails as it is told.
+//! A sink in memory that exposes its bytes, and of which chosen writes fail.
 
 ghost use Rattle.std.specs.Prelude.{◌≡◌, ◌≤◌, ◌↔◌, [], ◌++◌, Some, if◌then◌else◌, is_ok, length, take, min, Contains, IsTrue, IfOk, IsErr};
 ghost use Rattle.std.specs.Result.{result_unwrap_or};
@@ -10,7 +10,7 @@ use rtr_bytes::NoMemory;
 use std::alloc::Global;
 use std::marker::Model;
 
-/// A sink in memory. It tells the bytes that it took, and takes no memory after it is made.
+/// A sink in memory. It exposes the bytes that it took, and takes no memory after it is made.
 ///
 /// Its writes are numbered from 0, those of an empty piece too.
 #[derive(Drop)]
@@ -41,7 +41,7 @@ impl Model for MemSink {
 
 impl MemSink {
     /// An empty sink that takes at most `room` bytes, and of which the writes with the numbers in `fails` fail.
-    /// It takes the memory for all of them.
+    /// `NoMemory` comes where there is no memory for `room` bytes, which it takes at once.
     pub fn new(alloc: Global, room: u32, fails: Vec<u32>) -> Result<MemSink, NoMemory>
         ensures { IfOk result (λ sink. sink ≡ record {
           written = [];
@@ -89,8 +89,8 @@ impl Sink for MemSink {
 
     ghost faults = { λ s. s.faults };
 
-    /// Takes as many bytes as still fit. It fails exactly where the piece isn't empty and its number is one of
-    /// those that fail, or nothing of it fits.
+    /// Takes as many bytes as still fit, and answers how many. `SinkFailed` comes exactly where the piece isn't
+    /// empty, and its number is one of those that fail or nothing of it fits; then nothing is taken.
     fn write(&mut self, bytes: &[u8]) -> Result<usize, SinkFailed>
         ensures fails { IsErr result ↔ IsRefused self.old bytes.now }
         ensures taken { IfOk result (λ taken. taken ≡ min (length bytes.now) (room_left self.old)) }

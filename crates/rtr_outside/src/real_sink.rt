@@ -9,8 +9,11 @@ use std::io;
 use std::io::Write;
 use std::marker::Model;
 
-/// A sink over a writer, as standard output. It tells nothing of its bytes. An error of the writer, a write
-/// that takes nothing and a flush that fails are faults.
+/// A sink over a writer, as standard output. It exposes no bytes. An error of the writer, a write that takes
+/// nothing and a flush that fails are faults.
+///
+/// An error of the kind `std::io::ErrorKind::OutOfMemory` is a fault too: [`SinkFailed`] is a sink's only refusal,
+/// and an output that could not take its bytes failed, whatever the reason.
 #[derive(Drop)]
 pub struct RealSink<W> {
     writer: W,
@@ -41,13 +44,14 @@ impl<W: Write> Sink for RealSink<W> {
 
     ghost faults = { λ s. s.faults };
 
-    /// Writes once, and flushes what was taken.
+    /// Writes once, flushes, and answers how many bytes were taken. `SinkFailed` comes where the write or the flush
+    /// fails, or the write takes nothing of a piece that isn't empty.
     fn write(&mut self, bytes: &[u8]) -> Result<usize, SinkFailed>
         ensures within { IfOk result (λ taken. taken ≤ length bytes.now) }
         ensures some { IfOk result (λ taken. 0 < length bytes.now → 0 < taken) }
         ensures empty { length bytes.now ≡ 0 → result ≡ Ok 0 }
 
-        // Where the writer tells its bytes, it has those that were taken.
+        // Where the writer exposes its bytes, it has those that were taken.
         ensures taken { IfOk result (λ taken.
             Appends (W.contents self.old.writer) (W.contents self.new.writer) (take taken bytes.now)) }
         ensures faults { self.new.faults ≡ (if is_ok result then self.old.faults else one_more self.old.faults) }

@@ -12,13 +12,14 @@ pub struct SinkFailed;
 
 /// An output that takes bytes, as many at a time as it likes.
 pub trait Sink {
-    /// The bytes that it has taken so far, where it tells them.
+    /// The bytes that it has taken so far, where it exposes them.
     ghost written: { Self → Option (List ℕ) };
 
-    /// How many faults it has had. The count stands still at 2^64 - 1.
+    /// How many faults it has had. The count stays at 2^64 - 1 once it is there.
     ghost faults: { Self → ℕ };
 
-    /// Takes some bytes from the front of a piece, and answers how many. An `Err` takes none.
+    /// Takes the first bytes of a piece, at least one where it isn't empty, and answers how many. `SinkFailed` comes
+    /// only where the sink has a fault, and then nothing is taken.
     fn write(&mut self, bytes: &[u8]) -> Result<usize, SinkFailed>
         ensures within { IfOk result (λ taken. taken ≤ length bytes.now) }
         ensures some { IfOk result (λ taken. 0 < length bytes.now → 0 < taken) }
@@ -31,8 +32,8 @@ pub trait Sink {
         ensures never_falls { faults self.old ≤ faults self.new };
 }
 
-/// Writes the whole text, in as many pieces as the sink takes. An `Err` comes only where the sink had a fault;
-/// then it has taken a front of the text, which may be empty.
+/// Writes the whole text, in as many pieces as the sink takes. `SinkFailed` comes only where the sink had a fault;
+/// then it has taken a prefix of the text, which may be empty.
 pub fn write_all<S: Sink>(out: &mut S, text: &[u8]) -> Result<(), SinkFailed>
     ensures whole { OnOk result (Appends text.now (S.written out.old) (S.written out.new)) }
     ensures front { OnErr result (PrintsFront S.written text.now out.old out.new) }

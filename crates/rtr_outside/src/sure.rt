@@ -1,4 +1,4 @@
-//! Files and a sink that never fail, and tell nothing.
+//! Files and a sink that never fail, and expose no bytes.
 
 ghost use Rattle.std.specs.Prelude.{◌≡◌, ◌≢◌, ◌≤◌, ◌<◌, [], None, if◌then◌else◌, is_ok, length, IfOk, IsErrOf, IsOkUnless};
 ghost use Rattle.rtr_outside.specs.Named.{with_file, file_map};
@@ -10,7 +10,7 @@ use crate::sink::{Sink, SinkFailed};
 use std::alloc::Global;
 use std::marker::Model;
 
-/// Files in memory of which no call fails. They tell nothing to code that is generic over [`Files`].
+/// Files in memory of which no call fails. They expose no bytes to code that is generic over [`Files`].
 #[derive(Drop)]
 pub struct SureFiles {
     alloc: Global,
@@ -45,7 +45,8 @@ impl Files for SureFiles {
 
     ghost failed_calls = { λ _. [] };
 
-    /// Reads a name that isn't there as an empty file. It never fails.
+    /// The bytes of a name, and none where there is no such name. `TooLong` comes exactly where they are more than
+    /// [`FILE_LIMIT`], and `NoMemory` where memory is refused.
     fn read(&mut self, name: &str) -> Result<Vec<u8>, FileRefusal>
         ensures never_fails { result ≢ Err FileRefusal.Failed }
         ensures bytes { IfOk result (λ bytes. bytes.items ≡ read_of self.old name.now) }
@@ -60,7 +61,7 @@ impl Files for SureFiles {
         Ok(Vec::from_slice(self.alloc, bytes)?)
     }
 
-    /// Fails only for want of memory, and then every name has what it had.
+    /// Gives a name these bytes. `NoMemory` comes where memory is refused, and then every name has what it had.
     fn write(&mut self, name: &str, bytes: &[u8]) -> Result<(), FileRefusal>
         ensures only_memory { IsOkUnless result FileRefusal.NoMemory }
         ensures after { self.new ≡ (if is_ok result then with_file self.old name.now bytes.now else self.old) }
