@@ -12,7 +12,7 @@ use Rattle.pe_image.specs.declared.section.PeSection.{PeSection}
 use Rattle.pe_image.specs.Sections.{section_at}
 use Rattle.pe_image.specs.Headers.{pe_at, section_count, section_table_at, sections_of}
 use Rattle.pe_image.specs.Checks.{pe_checks, raw_range_fits}
-use Rattle.pe_image.specs.Pieces.{IsInFile, raw_of}
+use Rattle.pe_image.specs.Raw.{IsInFile, raw_of}
 use Rattle.pe_image.proofs.TableLemmas.{HeaderFits, HeadersFit}
 use Rattle.pe_image.proofs.RawLemmas.{IsWhole, AllWhole}
 use Rattle.pe_image.proofs.ReadBack.{pass}

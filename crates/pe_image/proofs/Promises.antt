@@ -1,24 +1,30 @@
 -- All that a written file promises.
 use Rattle.std.proofs.Common.{◌≡◌, ℕ, ◌+◌, ◌-◌, ◌^◌, ◌<◌, ◌≤◌, List, [], ◌∷◌, ◌++◌, length, sym, ap, subst, ◌∙◌, arith, Result, Ok, Err}
 use Rattle.std.specs.Prelude.{All, IfOk}
+use Rattle.std.specs.List.{AllZip}
 use Rattle.pe_image.specs.declared.section.PeSection.{PeSection}
 use Rattle.pe_image.specs.declared.values.HeaderValues.{HeaderValues}
+use Rattle.pe_image.specs.declared.values.Sizes.{Sizes}
 use Rattle.pe_image.specs.Headers.{sections_of}
-use Rattle.pe_image.specs.Places.{dat_rva, cod_rva, highest_end, dat_section, cod_section, placed_from, headers_end, all_sections, end_from, raw_start, written_sections, written_length, length_bound, AreLaid}
-use Rattle.pe_image.specs.Written.{IsWritable, header_values, StandsIn, header_fields, KeepsRanges, KeepsRaw, FindsPart, HasCliHeader, FailsLate, IsWellFormedWith}
-use Rattle.pe_image.specs.Pieces.{IsInFile, raw_parts, file_of}
+use Rattle.pe_image.specs.Places.{dat_rva, cod_rva, written_table_at, highest_end, dat_section, cod_section, placed_from, headers_end, all_sections, end_from, raw_start, written_sections, written_length, length_bound, AreLaid}
+use Rattle.pe_image.specs.Written.{IsWritable, header_sizes, header_values, StandsIn, header_fields, table_fields, IsPaddedFrom, HasPadded, KeepsRanges, KeepsRaw, FindsPart, HasCliHeader, FailsLate, IsWellFormedWith}
+use Rattle.pe_image.specs.Pieces.{file_of}
+use Rattle.pe_image.specs.Raw.{IsInFile, raw_parts}
 use Rattle.std.proofs.lemmas.List.Elements.{All-nil, All-cons}
 use Rattle.pe_image.proofs.PlacesLemmas.{aligned-65536}
 use Rattle.pe_image.proofs.InputLemmas.{AreBytes, IsInput, AllInFile, all_whole}
-use Rattle.pe_image.proofs.FileLemmas.{Parts, the_file, end_below, values_in_range, file_length, file_fields, file_sections, file_laid}
+use Rattle.pe_image.proofs.FileLemmas.{Parts, the_file, end_below, values_in_range, file_length, file_fields, file_sections, file_table, file_headers_padded, file_padded, file_laid}
 use Rattle.pe_image.proofs.RangeLemmas.{file_keeps, file_raw, file_dat, file_cod, file_cli_place, file_cli, file_late, file_well_formed}
 
 pub record IsWritten (sections : List PeSection) (bytes dat cod : List ℕ) (cli : ℕ) (out : List ℕ) : Type 0 where
   pub headers : All (StandsIn out) (header_fields (header_values sections bytes (length dat) (length cod) cli))
-  pub table : sections_of out ≡ written_sections sections (length dat) (length cod)
+  pub records : sections_of out ≡ written_sections sections (length dat) (length cod)
+  pub table : All (StandsIn out) (table_fields written_table_at (written_sections sections (length dat) (length cod)))
   pub laid : AreLaid (headers_end (length sections + 2)) (sections_of out) (length out)
   pub len : length out ≡ written_length sections (length dat) (length cod)
   pub bounded : length out ≤ length_bound sections (length dat) (length cod)
+  pub headers_padded : IsPaddedFrom out (headers_end (length sections + 2))
+  pub padded : AllZip (HasPadded out) (sections_of out) (raw_parts sections bytes dat cod)
   pub raw : KeepsRaw sections bytes (sections_of out) out
   pub kept : KeepsRanges sections bytes (sections_of out) out
   pub dat_found : FindsPart (sections_of out) out (dat_rva sections) dat
@@ -42,10 +48,14 @@ the_file_is : (sections : List PeSection) (bytes dat cod : List ℕ) (cli : ℕ)
 unfolding written_sections written_length
 the_file_is sections bytes dat cod cli p = record {
   headers = file_fields sections bytes dat cod cli p;
-  table = file_sections sections bytes dat cod cli p;
+
+  records = file_sections sections bytes dat cod cli p;
+  table = file_table sections bytes dat cod cli p;
   laid = file_laid sections bytes dat cod cli p;
   len = file_length sections bytes dat cod cli p;
   bounded = omega (arith, file_length sections bytes dat cod cli p, end_below sections (length dat) (length cod));
+  headers_padded = file_headers_padded sections bytes dat cod cli p;
+  padded = file_padded sections bytes dat cod cli p;
   raw = file_raw sections bytes dat cod cli p;
   kept = file_keeps sections bytes dat cod cli p;
   dat_found = file_dat sections bytes dat cod cli p;
@@ -81,9 +91,10 @@ all_raw bytes (s ∷ ss) (h, hs) = All-cons (IsInFile bytes) s ss h (all_raw byt
 pub raw_in_file : (bytes : List ℕ) (ss sections : List PeSection) → ss ≡ sections → IsInput bytes sections → All (IsInFile bytes) ss
 raw_in_file bytes ss sections same input = subst (All (IsInFile bytes)) (sym same) (all_raw bytes sections input.raw)
 
-pub headers_size-is : (ss : List PeSection) (bytes : List ℕ) (dat_len cod_len cli : ℕ) (v : HeaderValues) → v ≡ header_values ss bytes dat_len cod_len cli → v.headers_size ≡ raw_start ss
-unfolding header_values
-headers_size-is ss bytes dat_len cod_len cli v e = ap (λ (t : HeaderValues). t.headers_size) e
+pub headers_size-is : (ss : List PeSection) (bytes : List ℕ) (dat_len cod_len : ℕ) (sizes : Sizes) → sizes ≡ header_sizes ss bytes dat_len cod_len
+    → sizes.size_of_headers ≡ raw_start ss
+unfolding header_sizes
+headers_size-is ss bytes dat_len cod_len sizes e = ap (λ (t : Sizes). t.size_of_headers) e
 
 pub cod_end : (ss sections : List PeSection) (dat_len cod_len cli : ℕ) (cod_s : PeSection) → ss ≡ sections → cod_s ≡ cod_section ss dat_len cod_len → IsWritable sections dat_len cod_len cli → cod_s.rva + cod_s.virtual_size < 2 ^ 32
 cod_end ss sections dat_len cod_len cli cod_s same e w =

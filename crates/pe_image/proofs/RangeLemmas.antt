@@ -12,13 +12,13 @@ use Rattle.rtr_bytes.specs.Checks.{first_fault}
 use Rattle.pe_image.specs.declared.section.PeSection.{PeSection}
 use Rattle.pe_image.specs.Sections.{has_range, slice_of_rva}
 use Rattle.pe_image.specs.Headers.{sections_of, place_of, cli_at, metadata_place, metadata_size}
-use Rattle.pe_image.specs.Checks.{pe_checks}
+use Rattle.pe_image.specs.Checks.{cli_header_checks, pe_checks}
 use Rattle.pe_image.specs.Places.{aligned, highest_end, dat_rva, cod_rva, headers_end, dat_section, cod_section, all_sections, placed_from, end_from, raw_start}
 use Rattle.pe_image.specs.Written.{HasRawOf, KeepsRanges, KeepsRaw, FindsPart}
-use Rattle.pe_image.specs.Pieces.{raw_of, raw_parts}
+use Rattle.pe_image.specs.Raw.{raw_of, raw_parts}
 use Rattle.pe_image.proofs.PlacesLemmas.{aligned-512, aligned-65536, padded_before, placed_from-append, length-placed_from}
 use Rattle.pe_image.proofs.RawLemmas.{AllWhole, Holds, AllZip-left, AllZip-right, kept_in, find_behind, found_in, part_found}
-use Rattle.pe_image.proofs.ReadBack.{cli_at-is, early_pass, late_checks, late, none_late, same_field}
+use Rattle.pe_image.proofs.ReadBack.{cli_at-is, early_pass, late, none_late, same_field}
 use Rattle.pe_image.proofs.FileLemmas.{Parts, the_file, file_holds, file_has, file_sections, file_laid}
 
 -- ---- a range of the input
@@ -181,7 +181,7 @@ file_cli sections bytes dat cod cli p =
     ap (λ (t : ℕ). take 72 (drop t out)) (cli_at-is out (length sections + 2) cli f.0 (file_has sections bytes dat cod cli p) f.1) ∙ f.2
 
 late_left : (sections : List PeSection) (bytes dat cod : List ℕ) (cli : ℕ) → Parts sections bytes dat cod cli
-    → first_fault pe_checks (the_file sections bytes dat cod cli) ≡ first_fault late_checks (the_file sections bytes dat cod cli)
+    → first_fault pe_checks (the_file sections bytes dat cod cli) ≡ first_fault cli_header_checks (the_file sections bytes dat cod cli)
 late_left sections bytes dat cod cli p =
     let out = the_file sections bytes dat cod cli in
     let f = cli_found sections bytes dat cod cli p in

@@ -4,12 +4,13 @@ use Rattle.std.specs.Prelude.{find, replicate}
 use Rattle.std.specs.List.{flat_map, AllZip}
 use Rattle.std.specs.Option.{option_map}
 use Rattle.std.proofs.lemmas.Bool.{cases_Bool, le-leb, lt-leb, leb-true, and_parts, and_from, and_right}
-use Rattle.std.proofs.lemmas.List.{drop-drop, take-append-le, drop-append-le, take-take, drop-take, length-replicate}
+use Rattle.std.proofs.lemmas.List.{drop-drop, take_at, take-append-le, drop-append-le, take-take, drop-take, length-replicate}
 use Rattle.std.proofs.Math.Seq.{drop-append_seam}
 use Rattle.pe_image.specs.declared.section.PeSection.{PeSection}
 use Rattle.pe_image.specs.Sections.{has_range, slice_of_rva}
 use Rattle.pe_image.specs.Places.{aligned, placed_from, end_from, section_end, highest_end}
-use Rattle.pe_image.specs.Pieces.{padded, raw_of}
+use Rattle.pe_image.specs.Raw.{padded, raw_of}
+use Rattle.pe_image.specs.Written.{IsPaddedFrom, HasPadded}
 use Rattle.pe_image.proofs.PlacesLemmas.{aligned-512}
 
 pub length-padded : (bytes : List ℕ) → length (padded bytes) ≡ aligned 512 (length bytes)
@@ -23,7 +24,7 @@ pub record Matches (s : PeSection) (part : List ℕ) : Type 0 where
   pub fits : length part ≤ s.raw_size
   pub same : aligned 512 (length part) ≡ aligned 512 s.raw_size
 
--- a part stands at its section's place
+-- a part is at its section's place
 abbrev pub Holds : List ℕ → PeSection → List ℕ → Type 0
 Holds bytes s part = (rest : List ℕ) × (drop s.raw_at bytes ≡ part ++ rest)
 
@@ -31,20 +32,49 @@ padded_rest : (part : List ℕ) → (zeros : List ℕ) × (padded part ≡ part 
 unfolding padded
 padded_rest part = (replicate (aligned 512 (length part) - length part) 0, refl)
 
-pub parts_hold : (ss : List PeSection) (parts : List (List ℕ)) (front : List ℕ) → AllZip Matches ss parts → AllZip (Holds (front ++ flat_map padded parts)) (placed_from (length front) ss) parts
-parts_hold [] [] front h = tt
-parts_hold [] (p ∷ ps) front h = absurd h
-parts_hold (s ∷ ss) [] front h = absurd h
-parts_hold (s ∷ ss) (p ∷ ps) front (h, hs) =
+-- its bytes there are padded
+abbrev pub HoldsPadded : List ℕ → PeSection → List ℕ → Type 0
+HoldsPadded bytes s part = (rest : List ℕ) × (drop s.raw_at bytes ≡ padded part ++ rest)
+
+pub parts_padded : (ss : List PeSection) (parts : List (List ℕ)) (front : List ℕ) → AllZip Matches ss parts
+    → AllZip (HoldsPadded (front ++ flat_map padded parts)) (placed_from (length front) ss) parts
+parts_padded [] [] front h = tt
+parts_padded [] (p ∷ ps) front h = absurd h
+parts_padded (s ∷ ss) [] front h = absurd h
+parts_padded (s ∷ ss) (p ∷ ps) front (h, hs) =
     let more = flat_map padded ps in
-    let z = padded_rest p in
-    let first : drop (length front) (front ++ (padded p ++ more)) ≡ p ++ (z.0 ++ more) =
-    drop-append_seam front (padded p ++ more) ∙ ap (λ (t : List ℕ). t ++ more) z.1 ∙ append_assoc p z.0 more in
     let whole : (front ++ padded p) ++ more ≡ front ++ (padded p ++ more) = append_assoc front (padded p) more in
-    let place : length (front ++ padded p) ≡ length front + aligned 512 s.raw_size = length-append front (padded p) ∙ ap (λ (t : ℕ). length front + t) (length-padded p ∙ h.same) in
-    let P : List ℕ → Type 0 = λ t. AllZip (Holds t) (placed_from (length (front ++ padded p)) ss) ps in
-    let Q : ℕ → Type 0 = λ t. AllZip (Holds (front ++ (padded p ++ more))) (placed_from t ss) ps in
-    ((z.0 ++ more, first), subst Q place (subst P whole (parts_hold ss ps (front ++ padded p) hs)))
+    let place : length (front ++ padded p) ≡ length front + aligned 512 s.raw_size =
+    length-append front (padded p) ∙ ap (λ (t : ℕ). length front + t) (length-padded p ∙ h.same) in
+    let P : List ℕ → Type 0 = λ t. AllZip (HoldsPadded t) (placed_from (length (front ++ padded p)) ss) ps in
+    let Q : ℕ → Type 0 = λ t. AllZip (HoldsPadded (front ++ (padded p ++ more))) (placed_from t ss) ps in
+    ((more, drop-append_seam front (padded p ++ more)), subst Q place (subst P whole (parts_padded ss ps (front ++ padded p) hs)))
+
+pub AllZip-each : {A B : Type 0} (R S : A → B → Type 0) (xs : List A) (ys : List B) → ((x : A) (y : B) → R x y → S x y) → AllZip R xs ys → AllZip S xs ys
+AllZip-each R S [] [] f h = tt
+AllZip-each R S [] (y ∷ ys) f h = absurd h
+AllZip-each R S (x ∷ xs) [] f h = absurd h
+AllZip-each R S (x ∷ xs) (y ∷ ys) f (h, hs) = (f x y h, AllZip-each R S xs ys f hs)
+
+-- so the part's own bytes are there
+pub held : (bytes : List ℕ) (s : PeSection) (part : List ℕ) → HoldsPadded bytes s part → Holds bytes s part
+held bytes s part (rest, e) =
+    let z = padded_rest part in
+    (z.0 ++ rest, e ∙ ap (λ (t : List ℕ). t ++ rest) z.1 ∙ append_assoc part z.0 rest)
+
+-- and zeros after them
+pub has_padded : (bytes : List ℕ) (s : PeSection) (part : List ℕ) → HoldsPadded bytes s part → HasPadded bytes s part
+has_padded bytes s part (rest, e) =
+    ap (λ (t : List ℕ). take (aligned 512 (length part)) t) e ∙ take_at (padded part) rest (aligned 512 (length part)) (length-padded part)
+
+-- what is padded is at the front, and zeros after it
+pub padded_front : (front rest : List ℕ) (n : ℕ) → length front ≡ n → IsPaddedFrom (padded front ++ rest) n
+padded_front front rest n size =
+    let z = padded_rest front in
+    let first : take n (padded front ++ rest) ≡ front =
+    ap (λ (t : List ℕ). take n t) (ap (λ (t : List ℕ). t ++ rest) z.1 ∙ append_assoc front z.0 rest) ∙ take_at front (z.0 ++ rest) n size in
+    take_at (padded front) rest (aligned 512 n) (length-padded front ∙ ap (λ (t : ℕ). aligned 512 t) size)
+    ∙ sym (ap (λ (t : List ℕ). padded t) first)
 
 pub length-parts : (ss : List PeSection) (parts : List (List ℕ)) (at : ℕ) → AllZip Matches ss parts → at + length (flat_map padded parts) ≡ end_from at ss
 length-parts [] [] at h = omega arith
@@ -147,7 +177,7 @@ kept_in (s ∷ ss) more at rva len place old new (h, hs) (w, ws) e =
           kept_after rva len place at s (placed_from (at + aligned 512 s.raw_size) (ss ++ more)) old new miss (kept_in ss more (at + aligned 512 s.raw_size) rva len place old new hs ws later)
     ]
 
--- a range behind the ends of all sections is in none of them
+-- a range after the ends of all sections is in none of them
 out_of_range : (rva len : ℕ) (s : PeSection) → 0 < len → section_end s ≤ rva → has_range rva len s ≡ false
 out_of_range rva len s h e =
     let past : s.rva + s.raw_size < rva + len = omega arith in

@@ -12,13 +12,13 @@ use Rattle.rtr_bytes.specs.Checks.{Check, check, holds_or, fault_or, first_fault
 use Rattle.pe_image.specs.declared.section.PeSection.{PeSection}
 use Rattle.pe_image.specs.Sections.{section_at}
 use Rattle.pe_image.specs.Headers.{pe_at, section_count, optional_size, optional_at, magic_of, is_wide, directories_offset, directory_count_at, cli_directory_at, section_table_at, sections_of, place_of, cli_at, metadata_place}
-use Rattle.pe_image.specs.Checks.{coff_checks, optional_checks, section_checks, cli_checks, pe_checks, raw_range_fits}
-use Rattle.pe_image.specs.Places.{AreLaid}
+use Rattle.pe_image.specs.Checks.{coff_checks, optional_checks, section_checks, directory_checks, cli_header_checks, cli_checks, pe_checks, raw_range_fits}
+use Rattle.pe_image.specs.Places.{headers_end, AreLaid}
 use Rattle.pe_image.proofs.NumbersInARow.{field_at-is}
 
 -- the headers, as the checks read them
 pub record HasHeaders (out : List ℕ) (count cli : ℕ) : Type 0 where
-  pub long : 328 + 40 * count ≤ length out
+  pub long : headers_end count ≤ length out
   pub dos : u16_of out 0 ≡ 0x5A4D
   pub pe : u32_of out 60 ≡ 64
   pub signature : u32_of out 64 ≡ 0x4550
@@ -83,13 +83,6 @@ pass (c ∷ cs) bytes h = pass_one (c.failing_place bytes) (c.number) (first_fau
 holds : (b : Bool) (place : ℕ) → b ≡ true → holds_or b place ≡ None
 holds b place h = ap (λ (t : Bool). holds_or t place) h
 
--- the checks of what the CLI header says
-abbrev pub late_checks : List Check
-late_checks =
-    check 13 (λ bytes. holds_or (nat_le 72 (u32_of bytes (cli_at bytes))) (cli_at bytes))
-    ∷ check 14 (λ bytes. holds_or (is_some (metadata_place bytes)) (cli_at bytes + 8))
-    ∷ []
-
 coff_pass : (out : List ℕ) (count cli : ℕ) → HasHeaders out count cli → AllPass coff_checks out
 coff_pass out count cli h =
     let w = places out count cli h in
@@ -150,13 +143,7 @@ cli_place out count cli place h e =
 pub cli_at-is : (out : List ℕ) (count cli place : ℕ) → HasHeaders out count cli → place_of out cli 72 ≡ Some place → cli_at out ≡ place
 cli_at-is out count cli place h e = ap (λ (t : Option ℕ). unwrap_or t 0) (cli_place out count cli place h e)
 
-abbrev directory_check : List Check
-directory_check =
-    check 12 (λ bytes. let at = cli_directory_at bytes in
-    holds_or (nat_le 72 (u32_of bytes (at + 4)) && is_some (place_of bytes (u32_of bytes at) 72)) at)
-    ∷ []
-
-directory_pass : (out : List ℕ) (count cli place : ℕ) → HasHeaders out count cli → place_of out cli 72 ≡ Some place → AllPass directory_check out
+directory_pass : (out : List ℕ) (count cli place : ℕ) → HasHeaders out count cli → place_of out cli 72 ≡ Some place → AllPass directory_checks out
 directory_pass out count cli place h e =
     let size : u32_of out (cli_directory_at out + 4) ≡ 72 = ap (λ (t : ℕ). u32_of out (t + 4)) (cli_directory-is out count cli h) ∙ h.cli_size in
     let found : is_some (place_of out (u32_of out (cli_directory_at out)) 72) ≡ true = ap (λ (t : Option ℕ). is_some t) (cli_place out count cli place h e) in
@@ -164,12 +151,12 @@ directory_pass out count cli place h e =
     and_from (nat_le 72 (u32_of out (cli_directory_at out + 4))) (is_some (place_of out (u32_of out (cli_directory_at out)) 72)) (le-leb 72 (u32_of out (cli_directory_at out + 4)) (omega (arith, size))) found in
     (holds (nat_le 72 (u32_of out (cli_directory_at out + 4)) && is_some (place_of out (u32_of out (cli_directory_at out)) 72)) (cli_directory_at out) c12, tt)
 
-pub early_pass : (out : List ℕ) (count cli place from : ℕ) → HasHeaders out count cli → AreLaid from (sections_of out) (length out) → place_of out cli 72 ≡ Some place → first_fault pe_checks out ≡ first_fault late_checks out
+pub early_pass : (out : List ℕ) (count cli place from : ℕ) → HasHeaders out count cli → AreLaid from (sections_of out) (length out) → place_of out cli 72 ≡ Some place → first_fault pe_checks out ≡ first_fault cli_header_checks out
 early_pass out count cli place from h laid e =
     pass-by coff_checks (optional_checks ++ section_checks ++ cli_checks) out (coff_pass out count cli h)
     ∙ pass-by optional_checks (section_checks ++ cli_checks) out (optional_pass out count cli h)
     ∙ pass-by section_checks cli_checks out (section_pass out count cli from h laid)
-    ∙ pass-by directory_check late_checks out (directory_pass out count cli place h e)
+    ∙ pass-by directory_checks cli_header_checks out (directory_pass out count cli place h e)
 
 late_one : (a b : Option ℕ) (f : Fault) → fault_or 13 a (fault_or 14 b None) ≡ Some f → 13 ≤ f.check
 late_one (Some p) b f e = let same : record { check = 13; place = p } ≡ f = cc in omega (arith, ap (λ (t : Fault). t.check) same)
@@ -177,12 +164,12 @@ late_one None (Some p) f e = let same : record { check = 14; place = p } ≡ f =
 late_one None None f e = absurd (let x : ⊥ = cc in x)
 
 -- so a fault is one of the CLI header's own
-pub late : (out : List ℕ) (f : Fault) → first_fault late_checks out ≡ Some f → 13 ≤ f.check
+pub late : (out : List ℕ) (f : Fault) → first_fault cli_header_checks out ≡ Some f → 13 ≤ f.check
 late out f e = late_one (holds_or (nat_le 72 (u32_of out (cli_at out))) (cli_at out)) (holds_or (is_some (metadata_place out)) (cli_at out + 8)) f e
 
-pub none_late : (out : List ℕ) → 72 ≤ u32_of out (cli_at out) → is_some (metadata_place out) ≡ true → first_fault late_checks out ≡ None
+pub none_late : (out : List ℕ) → 72 ≤ u32_of out (cli_at out) → is_some (metadata_place out) ≡ true → first_fault cli_header_checks out ≡ None
 none_late out cb found =
-    pass-by late_checks [] out (holds (nat_le 72 (u32_of out (cli_at out))) (cli_at out) (le-leb 72 (u32_of out (cli_at out)) cb), (holds (is_some (metadata_place out)) (cli_at out + 8) found, tt))
+    pass-by cli_header_checks [] out (holds (nat_le 72 (u32_of out (cli_at out))) (cli_at out) (le-leb 72 (u32_of out (cli_at out)) cb), (holds (is_some (metadata_place out)) (cli_at out + 8) found, tt))
 
 -- a field of the CLI header, in the file and in the part that it was copied from
 pub same_field : (out part : List ℕ) (place i j : ℕ) → i + 72 ≤ length part → j + 4 ≤ 72 → take 72 (drop place out) ≡ take 72 (drop i part) → u32_of out (place + j) ≡ u32_of part (i + j)

@@ -1,12 +1,13 @@
 -- The pieces of a written file, joined.
-use Rattle.std.proofs.Common.{◌≡◌, ℕ, ◌-◌, List, [], ◌∷◌, ◌++◌, length, map, sym, ap, ◌∙◌, append_assoc, append-nil}
+use Rattle.std.proofs.Common.{◌≡◌, ℕ, ◌-◌, List, [], ◌∷◌, ◌++◌, length, map, Result, Ok, Err, OnOk, sym, ap, ◌∙◌, append_assoc, append-nil}
 use Rattle.std.specs.Prelude.{replicate}
 use Rattle.std.specs.List.{flat_map}
 use Rattle.std.proofs.lemmas.Grind.{flat_map-append}
 use Rattle.pe_image.specs.declared.section.PeSection.{PeSection}
 use Rattle.pe_image.specs.declared.values.HeaderValues.{HeaderValues}
 use Rattle.pe_image.specs.Places.{aligned, placed_from, end_from}
-use Rattle.pe_image.specs.Pieces.{header_bytes, section_bytes, padded, raw_of, raw_parts, file_of}
+use Rattle.pe_image.specs.Pieces.{header_bytes, section_bytes, file_of}
+use Rattle.pe_image.specs.Raw.{padded, raw_of, raw_parts}
 use Rattle.pe_image.proofs.PlacesLemmas.{placed_from-append}
 
 pub headers_joined : (front : List ℕ) (ss more : List PeSection) (first start next len : ℕ) (a b c d e : List ℕ)
@@ -40,3 +41,7 @@ parts_joined v placed sections bytes dat cod a b c d ea eb ec ed =
     ∙ ap (λ (t : List ℕ). head ++ t) (append_assoc raw (padded dat) (padded cod))
     ∙ ap (λ (t : List ℕ). head ++ (raw ++ (padded dat ++ t))) (sym (append-nil (padded cod)))
     ∙ ap (λ (t : List ℕ). head ++ t) (sym (flat_map-append padded (map (raw_of bytes) sections) (dat ∷ cod ∷ [])))
+
+pub on_ok_then : {A E : Type 0} (r : Result A E) (P Q : Type 0) → (P → Q) → OnOk r P → OnOk r Q
+on_ok_then (Ok x) P Q f h = f h
+on_ok_then (Err e) P Q f h = tt

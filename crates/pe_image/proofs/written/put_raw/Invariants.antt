@@ -1,6 +1,6 @@
 use Rattle.std.proofs.Common.{◌≡◌, ◌++◌, drop, map}
 use Rattle.std.specs.List.{flat_map}
-use Rattle.pe_image.specs.Pieces.{padded, raw_of}
+use Rattle.pe_image.specs.Raw.{padded, raw_of}
 use Rattle.pe_image.proofs.written.put_raw.Given as goal
 
 -- what was put and what is left are all
