@@ -31,15 +31,106 @@ coff_fit : (count : ℕ) → count < 2 ^ 16 → AllFit (coff_fields (coff_header
 coff_fit count h = (lit< tt, (h, (lit< tt, (lit< tt, (lit< tt, (lit< tt, (lit< tt, tt)))))))
 
 optional_fit : (count : ℕ) (z : Sizes) (resources cli : Span) → AreInRange count z resources cli → AllFit (optional_fields (optional_header z))
-optional_fit count z resources cli h =
-    (lit< tt, (lit< tt, (lit< tt, (h.size_of_code, (h.size_of_initialized_data, (lit< tt, (lit< tt, (h.base_of_code, (lit< tt,
-    (h.section_alignment, (lit< tt, (lit< tt, (lit< tt, (lit< tt, (lit< tt, (lit< tt, (lit< tt, (lit< tt, (h.size_of_image, (h.size_of_headers,
-    (lit< tt, (lit< tt, (lit< tt, (lit< tt, (lit< tt, (lit< tt, (lit< tt, (lit< tt, (lit< tt, tt)))))))))))))))))))))))))))))
+optional_fit count z resources cli h = (
+  lit< tt,
+  (
+    lit< tt,
+    (
+      lit< tt,
+      (
+        h.size_of_code,
+        (
+          h.size_of_initialized_data,
+          (
+            lit< tt,
+            (
+              lit< tt,
+              (
+                h.base_of_code,
+                (
+                  lit< tt,
+                  (
+                    h.section_alignment,
+                    (
+                      lit< tt,
+                      (
+                        lit< tt,
+                        (
+                          lit< tt,
+                          (
+                            lit< tt,
+                            (
+                              lit< tt,
+                              (
+                                lit< tt,
+                                (
+                                  lit< tt,
+                                  (
+                                    lit< tt,
+                                    (
+                                      h.size_of_image,
+                                      (
+                                        h.size_of_headers,
+                                        (lit< tt, (lit< tt, (lit< tt, (lit< tt, (lit< tt, (lit< tt, (lit< tt, (lit< tt, (lit< tt, tt))))))))),
+                                      ),
+                                    ),
+                                  ),
+                                ),
+                              ),
+                            ),
+                          ),
+                        ),
+                      ),
+                    ),
+                  ),
+                ),
+              ),
+            ),
+          ),
+        ),
+      ),
+    ),
+  ),
+)
 
 directory_fit : (count : ℕ) (z : Sizes) (resources cli : Span) → AreInRange count z resources cli → AllFit (directory_fields resources cli)
-directory_fit count z resources cli h =
-    (lit< tt, (lit< tt, (h.resources_start, (h.resources_len, (lit< tt, (lit< tt, (lit< tt, (lit< tt, (lit< tt, (lit< tt, (lit< tt, (lit< tt,
-    (lit< tt, (lit< tt, (lit< tt, (h.cli_start, (h.cli_len, (lit< tt, tt))))))))))))))))))
+directory_fit count z resources cli h = (
+  lit< tt,
+  (
+    lit< tt,
+    (
+      h.resources_start,
+      (
+        h.resources_len,
+        (
+          lit< tt,
+          (
+            lit< tt,
+            (
+              lit< tt,
+              (
+                lit< tt,
+                (
+                  lit< tt,
+                  (
+                    lit< tt,
+                    (
+                      lit< tt,
+                      (
+                        lit< tt,
+                        (lit< tt, (lit< tt, (lit< tt, (h.cli_start, (h.cli_len, (lit< tt, tt)))))),
+                      ),
+                    ),
+                  ),
+                ),
+              ),
+            ),
+          ),
+        ),
+      ),
+    ),
+  ),
+)
 
 header_fit : (count : ℕ) (z : Sizes) (resources cli : Span) → AreInRange count z resources cli → AllFit (header_fields (values count z resources cli))
 header_fit count z resources cli h =
@@ -49,11 +140,169 @@ header_fit count z resources cli h =
 
 -- they cover the bytes up to the section table
 pub header_covers : (v : HeaderValues) → Covers 0 (header_fields v) written_table_at
-header_covers v =
-    (refl, (refl, (refl, (refl, (refl, (refl, (refl, (refl, (refl, (refl, (refl, (refl, (refl, (refl, (refl, (refl, (refl, (refl,
-    (refl, (refl, (refl, (refl, (refl, (refl, (refl, (refl, (refl, (refl, (refl, (refl, (refl, (refl, (refl, (refl, (refl, (refl,
-    (refl, (refl, (refl, (refl, (refl, (refl, (refl, (refl, (refl, (refl, (refl, (refl, (refl, (refl, (refl, (refl, (refl, (refl,
-    (refl, (refl, (refl, refl)))))))))))))))))))))))))))))))))))))))))))))))))))))))))
+header_covers v = (
+  refl,
+  (
+    refl,
+    (
+      refl,
+      (
+        refl,
+        (
+          refl,
+          (
+            refl,
+            (
+              refl,
+              (
+                refl,
+                (
+                  refl,
+                  (
+                    refl,
+                    (
+                      refl,
+                      (
+                        refl,
+                        (
+                          refl,
+                          (
+                            refl,
+                            (
+                              refl,
+                              (
+                                refl,
+                                (
+                                  refl,
+                                  (
+                                    refl,
+                                    (
+                                      refl,
+                                      (
+                                        refl,
+                                        (
+                                          refl,
+                                          (
+                                            refl,
+                                            (
+                                              refl,
+                                              (
+                                                refl,
+                                                (
+                                                  refl,
+                                                  (
+                                                    refl,
+                                                    (
+                                                      refl,
+                                                      (
+                                                        refl,
+                                                        (
+                                                          refl,
+                                                          (
+                                                            refl,
+                                                            (
+                                                              refl,
+                                                              (
+                                                                refl,
+                                                                (
+                                                                  refl,
+                                                                  (
+                                                                    refl,
+                                                                    (
+                                                                      refl,
+                                                                      (
+                                                                        refl,
+                                                                        (
+                                                                          refl,
+                                                                          (
+                                                                            refl,
+                                                                            (
+                                                                              refl,
+                                                                              (
+                                                                                refl,
+                                                                                (
+                                                                                  refl,
+                                                                                  (
+                                                                                    refl,
+                                                                                    (
+                                                                                      refl,
+                                                                                      (
+                                                                                        refl,
+                                                                                        (
+                                                                                          refl,
+                                                                                          (
+                                                                                            refl,
+                                                                                            (
+                                                                                              refl,
+                                                                                              (
+                                                                                                refl,
+                                                                                                (
+                                                                                                  refl,
+                                                                                                  (
+                                                                                                    refl,
+                                                                                                    (
+                                                                                                      refl,
+                                                                                                      (
+                                                                                                        refl,
+                                                                                                        (
+                                                                                                          refl,
+                                                                                                          (
+                                                                                                            refl,
+                                                                                                            (refl, (refl, (refl, refl))),
+                                                                                                          ),
+                                                                                                        ),
+                                                                                                      ),
+                                                                                                    ),
+                                                                                                  ),
+                                                                                                ),
+                                                                                              ),
+                                                                                            ),
+                                                                                          ),
+                                                                                        ),
+                                                                                      ),
+                                                                                    ),
+                                                                                  ),
+                                                                                ),
+                                                                              ),
+                                                                            ),
+                                                                          ),
+                                                                        ),
+                                                                      ),
+                                                                    ),
+                                                                  ),
+                                                                ),
+                                                              ),
+                                                            ),
+                                                          ),
+                                                        ),
+                                                      ),
+                                                    ),
+                                                  ),
+                                                ),
+                                              ),
+                                            ),
+                                          ),
+                                        ),
+                                      ),
+                                    ),
+                                  ),
+                                ),
+                              ),
+                            ),
+                          ),
+                        ),
+                      ),
+                    ),
+                  ),
+                ),
+              ),
+            ),
+          ),
+        ),
+      ),
+    ),
+  ),
+)
 
 pub length-header_bytes : (v : HeaderValues) → length (header_bytes v) ≡ 328
 unfolding header_bytes

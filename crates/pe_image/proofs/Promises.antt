@@ -48,7 +48,6 @@ the_file_is : (sections : List PeSection) (bytes dat cod : List ℕ) (cli : ℕ)
 unfolding written_sections written_length
 the_file_is sections bytes dat cod cli p = record {
   headers = file_fields sections bytes dat cod cli p;
-
   records = file_sections sections bytes dat cod cli p;
   table = file_table sections bytes dat cod cli p;
   laid = file_laid sections bytes dat cod cli p;

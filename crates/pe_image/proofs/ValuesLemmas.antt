@@ -14,7 +14,12 @@ pub sizes-are : (sections : List PeSection) (bytes : List ℕ) (dat_len cod_len 
     → image ≡ image_size (section_alignment_of bytes) (cod_rva sections dat_len + cod_len)
     → headers ≡ aligned 512 (headers_end (length sections + 2))
     → (let sizes : Sizes = record {
-      size_of_code = code; size_of_initialized_data = initialized; base_of_code = base; section_alignment = alignment; size_of_image = image; size_of_headers = headers;
+      size_of_code = code;
+      size_of_initialized_data = initialized;
+      base_of_code = base;
+      section_alignment = alignment;
+      size_of_image = image;
+      size_of_headers = headers;
     } in sizes) ≡ header_sizes sections bytes dat_len cod_len
 unfolding header_sizes
 sizes-are sections bytes dat_len cod_len code initialized base alignment image headers a b c d e f = rw (a, b, c, d, e, f) refl

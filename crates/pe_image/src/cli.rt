@@ -63,7 +63,11 @@ impl Cli {
         let file = layout.file();
         let directory = layout.directory(CLI_DIRECTORY);
         let size = file.u32(directory + 4);
-        ensure(size >= CLI_HEADER_SIZE, Check::CliDirectory as u16, directory)?;
+        ensure(
+            size >= CLI_HEADER_SIZE,
+            Check::CliDirectory as u16,
+            directory,
+        )?;
         let place = sections.slice_of_rva(file.u32(directory), CLI_HEADER_SIZE);
         found(place, Check::CliDirectory as u16, directory)
     }

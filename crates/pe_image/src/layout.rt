@@ -62,7 +62,11 @@ impl<'a> FileBytes<'a> {
         ensure(self.u16(0) == DOS_SIGNATURE, Check::DosSignature as u16, 0)?;
         let pe = self.u32(SIGNATURE_PLACE);
         let optional = u64::from(pe) + u64::from(OPTIONAL_HEADER);
-        ensure(optional <= u64::from(len), Check::CoffHeader as u16, SIGNATURE_PLACE)?;
+        ensure(
+            optional <= u64::from(len),
+            Check::CoffHeader as u16,
+            SIGNATURE_PLACE,
+        )?;
         ensure(self.u32(pe) == PE_SIGNATURE, Check::PeSignature as u16, pe)?;
         let size_at = pe + SIZE_OF_OPTIONAL_HEADER;
         let end = pe + OPTIONAL_HEADER + u32::from(self.u16(size_at));
@@ -109,7 +113,11 @@ impl<'a> Layout<'a> {
         ensure(known, Check::Magic as u16, optional)?;
         let offset = directories_offset(wide);
         let room = size >= offset + DIRECTORIES * DIRECTORY_SIZE;
-        ensure(room, Check::DataDirectories as u16, pe + SIZE_OF_OPTIONAL_HEADER)?;
+        ensure(
+            room,
+            Check::DataDirectories as u16,
+            pe + SIZE_OF_OPTIONAL_HEADER,
+        )?;
         let directories = optional + offset;
         let count_at = directories - 4;
         let enough = file.u32(count_at) >= DIRECTORIES;
@@ -117,7 +125,11 @@ impl<'a> Layout<'a> {
         let section_table = optional + size;
         let section_count = file.u16(pe + NUMBER_OF_SECTIONS);
         let table_end = section_table + SECTION_HEADER_SIZE * u32::from(section_count);
-        ensure(table_end <= file.len(), Check::SectionTable as u16, pe + NUMBER_OF_SECTIONS)?;
+        ensure(
+            table_end <= file.len(),
+            Check::SectionTable as u16,
+            pe + NUMBER_OF_SECTIONS,
+        )?;
         let machine = file.u16(pe + MACHINE);
         Ok(Layout {
             file,

@@ -20,8 +20,9 @@ pub(crate) const NEW_SECTIONS: usize = 2;
 
 /// Where the section table of a written file is: after the MS-DOS header, the PE signature and the COFF header, and the
 /// optional header.
-const SECTION_TABLE: u64 =
-    DOS_HEADER_SIZE as u64 + OPTIONAL_HEADER as u64 + OPTIONAL_HEADER_SIZE as u64;
+const SECTION_TABLE: u64 = DOS_HEADER_SIZE as u64
+    + OPTIONAL_HEADER as u64
+    + OPTIONAL_HEADER_SIZE as u64;
 
 /// Where the headers of a written file with so many sections end.
 pub(crate) fn headers_end(section_count: u16) -> u64

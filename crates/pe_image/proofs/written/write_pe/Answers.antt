@@ -33,7 +33,7 @@ pub join-requires : goal.join-requires
 join-requires c = record {
   first = ap (λ (t : OptionalHeader). t.size_of_headers) c.of-2.ensures
       ∙ headers_size-is c.sections-sections.result.now c.args.bytes.now (length c.args.dat.now) (length c.args.cod.now) c.of-sizes.result (c.of-sizes.ensures c.sections-sections.result.now c.args.bytes.now (length c.args.dat.now) (length c.args.cod.now)
-    (c.of-copied.ensures.section_alignment ∙ ap (λ (t : List ℕ). section_alignment_of t) c.new.ensures) (omega arith) c.after-new.ensures.dat c.after-new.ensures.cod);
+      (c.of-copied.ensures.section_alignment ∙ ap (λ (t : List ℕ). section_alignment_of t) c.new.ensures) (omega arith) c.after-new.ensures.dat c.after-new.ensures.cod);
   room = room_in_file c.sections-sections.result.now c.args.input.now.sections (length c.args.dat.now) (length c.args.cod.now) c.args.cli_at
       c.after-new.result.dat c.after-new.result.cod c.sections-sections.ensures c.after-new.ensures.dat c.after-new.ensures.cod c.requires.writable;
   raw = raw_in_file c.args.bytes.now c.sections-sections.result.now c.args.input.now.sections c.sections-sections.ensures
@@ -43,8 +43,12 @@ join-requires c = record {
 }
 
 -- the values of the headers
-values_are : (c : goal.After-join) → (let v : HeaderValues = record { coff = c.of.result; optional = c.of-2.result; resource_table = c.of-copied.result.resource_table;
-      cli_header = record { start = c.args.cli_at; len = 72 } } in v)
+values_are : (c : goal.After-join) → (let v : HeaderValues = record {
+  coff = c.of.result;
+  optional = c.of-2.result;
+  resource_table = c.of-copied.result.resource_table;
+  cli_header = record { start = c.args.cli_at; len = 72 };
+} in v)
     ≡ header_values c.sections-sections.result.now c.args.bytes.now (length c.args.dat.now) (length c.args.cod.now) c.args.cli_at
 values_are c =
     values-are c.sections-sections.result.now c.args.bytes.now (length c.args.dat.now) (length c.args.cod.now) c.args.cli_at _ c.of.result c.of-2.result

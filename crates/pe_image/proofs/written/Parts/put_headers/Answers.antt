@@ -11,16 +11,26 @@ put_table-requires c =
     let p = c.args.self.now in
     let ss = p.sections.now in
     let more : List PeSection = p.new.dat ∷ p.new.cod ∷ [] in
-    omega (arith, ap (λ (t : ℕ). end_from t ss) c.requires.joinable.first, end_from-append ss more (raw_start ss),
-    end_from-grows more (end_from (raw_start ss) ss), c.requires.joinable.room)
+    omega (
+      arith,
+      ap (λ (t : ℕ). end_from t ss) c.requires.joinable.first,
+      end_from-append ss more (raw_start ss),
+      end_from-grows more (end_from (raw_start ss) ss),
+      c.requires.joinable.room,
+    )
 
 pub put_table-requires-2 : goal.put_table-requires-2
 put_table-requires-2 c =
     let p = c.args.self.now in
     let ss = p.sections.now in
     let more : List PeSection = p.new.dat ∷ p.new.cod ∷ [] in
-    omega (arith, c.in_ok-next.ensures.next, ap (λ (t : ℕ). end_from t ss) c.requires.joinable.first, end_from-append ss more (raw_start ss),
-    c.requires.joinable.room)
+    omega (
+      arith,
+      c.in_ok-next.ensures.next,
+      ap (λ (t : ℕ). end_from t ss) c.requires.joinable.first,
+      end_from-append ss more (raw_start ss),
+      c.requires.joinable.room,
+    )
 
 pub returns : goal.returns
 returns c =
