@@ -30,7 +30,13 @@ end_below sections dat_len cod_len =
     let start = aligned-512 (headers_end (length sections + 2)) in
     let dat = aligned-512 dat_len in
     let cod = aligned-512 cod_len in
-    omega (arith, end_from-append sections more (raw_start sections), end_from-le sections (raw_start sections), aligned-aligned dat_len, aligned-aligned cod_len)
+    omega (
+      arith,
+      end_from-append sections more (raw_start sections),
+      end_from-le sections (raw_start sections),
+      aligned-aligned dat_len,
+      aligned-aligned cod_len,
+    )
 
 -- ---- the values of the headers
 
@@ -40,7 +46,8 @@ image_size_below alignment image_end h =
       | inl over ↦ subst (λ (b : Bool). (if b then image_end else aligned alignment image_end) < 2 ^ 32) (sym over) h
       | inr within ↦
           let parts = or_parts (alignment == 0) (nat_le (2 ^ 32) (aligned alignment image_end)) within in
-          subst (λ (b : Bool). (if b then image_end else aligned alignment image_end) < 2 ^ 32) (sym within) (leb-false (2 ^ 32) (aligned alignment image_end) parts.1)
+          subst (λ (b : Bool). (if b then image_end else aligned alignment image_end) < 2 ^ 32) (sym within)
+          (leb-false (2 ^ 32) (aligned alignment image_end) parts.1)
     ]
 
 -- the headers' values are in range
@@ -48,7 +55,8 @@ abbrev pub HasRange : List PeSection → List ℕ → ℕ → ℕ → ℕ → Ty
 HasRange sections bytes dat_len cod_len cli =
     AreInRange (length sections + 2) (header_sizes sections bytes dat_len cod_len) (resources_of bytes) (record { start = cli; len = 72 })
 
-pub values_in_range : (sections : List PeSection) (bytes : List ℕ) (dat_len cod_len cli : ℕ) → AreBytes bytes → IsWritable sections dat_len cod_len cli
+pub values_in_range : (sections : List PeSection) (bytes : List ℕ) (dat_len cod_len cli : ℕ) → AreBytes bytes
+    → IsWritable sections dat_len cod_len cli
     → cli < 2 ^ 32 → HasRange sections bytes dat_len cod_len cli
 unfolding header_sizes
 values_in_range sections bytes dat_len cod_len cli h w c =
@@ -73,7 +81,8 @@ values_in_range sections bytes dat_len cod_len cli h w c =
 
 -- ---- the section headers and their raw bytes
 
-new_fit : (sections : List PeSection) (dat_len cod_len cli : ℕ) → IsWritable sections dat_len cod_len cli → HeadersFit (dat_section sections dat_len ∷ cod_section sections dat_len cod_len ∷ [])
+new_fit : (sections : List PeSection) (dat_len cod_len cli : ℕ) → IsWritable sections dat_len cod_len cli
+    → HeadersFit (dat_section sections dat_len ∷ cod_section sections dat_len cod_len ∷ [])
 new_fit sections dat_len cod_len cli w =
     let dat = aligned-65536 (highest_end sections) in
     let cod = aligned-65536 (dat_rva sections + dat_len) in
@@ -81,7 +90,10 @@ new_fit sections dat_len cod_len cli w =
     let cod_size = aligned-512 cod_len in
     let room = w.room_in_image in (
       record { name = refl; virtual_size = omega arith; rva = omega arith; raw_size = omega arith; raw_at = lit< tt; flags = lit< tt },
-      (record { name = refl; virtual_size = omega arith; rva = omega arith; raw_size = omega arith; raw_at = lit< tt; flags = lit< tt }, tt),
+      (
+        record { name = refl; virtual_size = omega arith; rva = omega arith; raw_size = omega arith; raw_at = lit< tt; flags = lit< tt },
+        tt,
+      ),
     )
 
 old_match : (bytes : List ℕ) (sections : List PeSection) → AllWhole bytes sections → AllZip Matches sections (map (raw_of bytes) sections)
@@ -93,15 +105,17 @@ new_match part s h =
     let a = aligned-512 (length part) in
     record { fits = omega arith; same = sym (ap (λ (t : ℕ). aligned 512 t) h ∙ aligned-aligned (length part)) }
 
-all_match : (bytes dat cod : List ℕ) (sections : List PeSection) → AllWhole bytes sections → AllZip Matches (all_sections sections (length dat) (length cod)) (raw_parts sections bytes dat cod)
+all_match : (bytes dat cod : List ℕ) (sections : List PeSection) → AllWhole bytes sections
+    → AllZip Matches (all_sections sections (length dat) (length cod)) (raw_parts sections bytes dat cod)
 unfolding raw_parts
 all_match bytes dat cod sections h =
-    AllZip-append Matches sections (dat_section sections (length dat) ∷ cod_section sections (length dat) (length cod) ∷ []) (map (raw_of bytes) sections) (dat ∷ cod ∷ []) (old_match bytes sections h)
+    AllZip-append Matches sections (dat_section sections (length dat) ∷ cod_section sections (length dat) (length cod) ∷ [])
+    (map (raw_of bytes) sections) (dat ∷ cod ∷ []) (old_match bytes sections h)
     (new_match dat (dat_section sections (length dat)) refl, (new_match cod (cod_section sections (length dat) (length cod)) refl, tt))
 
 -- ---- the whole file
 
--- what stands together
+-- what is known together
 pub record Parts (sections : List PeSection) (bytes dat cod : List ℕ) (cli : ℕ) : Type 0 where
   pub writable : IsWritable sections (length dat) (length cod) cli
   pub headers : HeadersFit sections
@@ -109,18 +123,28 @@ pub record Parts (sections : List PeSection) (bytes dat cod : List ℕ) (cli : �
   pub values : HasRange sections bytes (length dat) (length cod) cli
 
 abbrev pub the_file : List PeSection → List ℕ → List ℕ → List ℕ → ℕ → List ℕ
-the_file sections bytes dat cod cli = file_of (header_values sections bytes (length dat) (length cod) cli) (written_sections sections (length dat) (length cod)) (raw_parts sections bytes dat cod)
+the_file sections bytes dat cod cli =
+    file_of (header_values sections bytes (length dat) (length cod) cli) (written_sections sections (length dat) (length cod))
+    (raw_parts sections bytes dat cod)
 
-table_fits : (sections : List PeSection) (bytes dat cod : List ℕ) (cli : ℕ) → Parts sections bytes dat cod cli → HeadersFit (placed_from (raw_start sections) (all_sections sections (length dat) (length cod)))
+table_fits : (sections : List PeSection) (bytes dat cod : List ℕ) (cli : ℕ) → Parts sections bytes dat cod cli
+    → HeadersFit (placed_from (raw_start sections) (all_sections sections (length dat) (length cod)))
 table_fits sections bytes dat cod cli p =
     let room = p.writable.room_in_file in
     HeadersFit-placed (all_sections sections (length dat) (length cod)) (raw_start sections)
-    (HeadersFit-append sections (dat_section sections (length dat) ∷ cod_section sections (length dat) (length cod) ∷ []) p.headers (new_fit sections (length dat) (length cod) cli p.writable))
+    (HeadersFit-append sections (dat_section sections (length dat) ∷ cod_section sections (length dat) (length cod) ∷ []) p.headers
+    (new_fit sections (length dat) (length cod) cli p.writable))
     (omega (arith, end_below sections (length dat) (length cod)))
 
-count_is : (sections : List PeSection) (dat_len cod_len : ℕ) → length (placed_from (raw_start sections) (all_sections sections dat_len cod_len)) ≡ length sections + 2
+count_is : (sections : List PeSection) (dat_len cod_len : ℕ)
+    → length (placed_from (raw_start sections) (all_sections sections dat_len cod_len)) ≡ length sections + 2
 count_is sections dat_len cod_len =
-    omega (arith, length-placed_from (all_sections sections dat_len cod_len) (raw_start sections), length-append sections (dat_section sections dat_len ∷ cod_section sections dat_len cod_len ∷ []))
+    omega (
+      arith,
+      length-placed_from (all_sections sections dat_len cod_len) (raw_start sections),
+      length-append sections
+          (dat_section sections dat_len ∷ cod_section sections dat_len cod_len ∷ []),
+    )
 
 head_size : (v : HeaderValues) (sections placed : List PeSection) → HeadersFit placed → length placed ≡ length sections + 2
     → length (header_bytes v ++ flat_map section_bytes placed) ≡ headers_end (length sections + 2)
@@ -140,7 +164,8 @@ unfolding file_of written_sections
 file_headers_padded sections bytes dat cod cli p =
     let v = header_values sections bytes (length dat) (length cod) cli in
     let placed = placed_from (raw_start sections) (all_sections sections (length dat) (length cod)) in
-    padded_front (header_bytes v ++ flat_map section_bytes placed) (flat_map padded (raw_parts sections bytes dat cod)) (headers_end (length sections + 2))
+    padded_front (header_bytes v ++ flat_map section_bytes placed) (flat_map padded (raw_parts sections bytes dat cod))
+    (headers_end (length sections + 2))
     (head_size v sections placed (table_fits sections bytes dat cod cli p) (count_is sections (length dat) (length cod)))
 
 -- each part is at its place, padded
@@ -162,7 +187,8 @@ pub file_holds : (sections : List PeSection) (bytes dat cod : List ℕ) (cli : �
     → AllZip (Holds (the_file sections bytes dat cod cli)) (placed_from (raw_start sections) (all_sections sections (length dat) (length cod))) (raw_parts sections bytes dat cod)
 file_holds sections bytes dat cod cli p =
     let out = the_file sections bytes dat cod cli in
-    AllZip-each (HoldsPadded out) (Holds out) (placed_from (raw_start sections) (all_sections sections (length dat) (length cod))) (raw_parts sections bytes dat cod)
+    AllZip-each (HoldsPadded out) (Holds out) (placed_from (raw_start sections) (all_sections sections (length dat) (length cod)))
+    (raw_parts sections bytes dat cod)
     (held out) (held_padded sections bytes dat cod cli p)
 
 pub file_length : (sections : List PeSection) (bytes dat cod : List ℕ) (cli : ℕ) → Parts sections bytes dat cod cli
@@ -174,18 +200,24 @@ file_length sections bytes dat cod cli p =
     let placed = placed_from (raw_start sections) all in
     let head = padded (header_bytes v ++ flat_map section_bytes placed) in
     let parts = raw_parts sections bytes dat cod in
-    let size : length head ≡ raw_start sections = head_length v sections placed (table_fits sections bytes dat cod cli p) (count_is sections (length dat) (length cod)) in
-    length-append head (flat_map padded parts) ∙ ap (λ (t : ℕ). t + length (flat_map padded parts)) size ∙ length-parts all parts (raw_start sections) (all_match bytes dat cod sections p.raw)
+    let size : length head ≡ raw_start sections =
+    head_length v sections placed (table_fits sections bytes dat cod cli p) (count_is sections (length dat) (length cod)) in
+    length-append head (flat_map padded parts) ∙ ap (λ (t : ℕ). t + length (flat_map padded parts)) size
+    ∙ length-parts all parts (raw_start sections) (all_match bytes dat cod sections p.raw)
 
 -- the file begins with its headers
-file_begins : (v : HeaderValues) (placed : List PeSection) (parts : List (List ℕ)) → (rest : List ℕ) × (file_of v placed parts ≡ header_bytes v ++ (flat_map section_bytes placed ++ rest))
+file_begins : (v : HeaderValues) (placed : List PeSection) (parts : List (List ℕ))
+    → (rest : List ℕ) × (file_of v placed parts ≡ header_bytes v ++ (flat_map section_bytes placed ++ rest))
 unfolding file_of padded
 file_begins v placed parts =
     let a = header_bytes v in
     let b = flat_map section_bytes placed in
     let z = replicate (aligned 512 (length (a ++ b)) - length (a ++ b)) 0 in
-    let r = flat_map padded parts in
-    (z ++ r, ap (λ (t : List ℕ). t ++ r) (append_assoc a b z) ∙ append_assoc a (b ++ z) r ∙ ap (λ (t : List ℕ). a ++ t) (append_assoc b z r))
+    let r = flat_map padded parts in (
+      z ++ r,
+      ap (λ (t : List ℕ). t ++ r) (append_assoc a b z) ∙ append_assoc a (b ++ z) r
+          ∙ ap (λ (t : List ℕ). a ++ t) (append_assoc b z r),
+    )
 
 pub file_fields : (sections : List PeSection) (bytes dat cod : List ℕ) (cli : ℕ) → Parts sections bytes dat cod cli
     → All (StandsIn (the_file sections bytes dat cod cli)) (header_fields (header_values sections bytes (length dat) (length cod) cli))
@@ -194,11 +226,13 @@ file_fields sections bytes dat cod cli p =
     let b = file_begins v (written_sections sections (length dat) (length cod)) (raw_parts sections bytes dat cod) in
     let P : List ℕ → Type 0 = λ t. All (StandsIn t) (header_fields v) in
     subst P (sym b.1)
-    (header_stands (length sections + 2) (header_sizes sections bytes (length dat) (length cod)) (resources_of bytes) (record { start = cli; len = 72 })
+    (header_stands (length sections + 2) (header_sizes sections bytes (length dat) (length cod)) (resources_of bytes)
+    (record { start = cli; len = 72 })
     (flat_map section_bytes (written_sections sections (length dat) (length cod)) ++ b.0) p.values)
 
 -- the headers as the checks read them
-pub file_has : (sections : List PeSection) (bytes dat cod : List ℕ) (cli : ℕ) → Parts sections bytes dat cod cli → HasHeaders (the_file sections bytes dat cod cli) (length sections + 2) cli
+pub file_has : (sections : List PeSection) (bytes dat cod : List ℕ) (cli : ℕ) → Parts sections bytes dat cod cli
+    → HasHeaders (the_file sections bytes dat cod cli) (length sections + 2) cli
 file_has sections bytes dat cod cli p =
     let out = the_file sections bytes dat cod cli in
     let fields = file_fields sections bytes dat cod cli p in
@@ -207,8 +241,14 @@ file_has sections bytes dat cod cli p =
     let start = aligned-512 (headers_end (length sections + 2)) in
     let number = λ (o : Option ℕ). unwrap_or o 0 in
     record {
-      long = omega (arith, file_length sections bytes dat cod cli p, end_from-grows (all_sections sections (length dat) (length cod)) (raw_start sections));
-      dos = ap (λ (t : List ℕ). u16_of t 0) b.1 ∙ dos_read v (flat_map section_bytes (written_sections sections (length dat) (length cod)) ++ b.0);
+      long = omega (
+        arith,
+        file_length sections bytes dat cod cli p,
+        end_from-grows (all_sections sections (length dat) (length cod))
+            (raw_start sections),
+      );
+      dos = ap (λ (t : List ℕ). u16_of t 0) b.1
+          ∙ dos_read v (flat_map section_bytes (written_sections sections (length dat) (length cod)) ++ b.0);
       pe = ap number (fields 1 (at 0 0 0) (omega arith));
       signature = ap number (fields 2 (at 0 0 0) (omega arith));
       sections = ap number (fields 4 (at 0 0 0) (omega arith));
@@ -271,4 +311,5 @@ file_laid sections bytes dat cod cli p =
     let start = aligned-512 (headers_end (length sections + 2)) in
     let P : List PeSection → Type 0 = λ t. AreLaid (headers_end (length sections + 2)) t (length (the_file sections bytes dat cod cli)) in
     subst P (sym (file_sections sections bytes dat cod cli p))
-    (laid all (headers_end (length sections + 2)) (raw_start sections) (length (the_file sections bytes dat cod cli)) (omega arith) start.multiple (omega (arith, file_length sections bytes dat cod cli p)))
+    (laid all (headers_end (length sections + 2)) (raw_start sections) (length (the_file sections bytes dat cod cli)) (omega arith)
+    start.multiple (omega (arith, file_length sections bytes dat cod cli p)))

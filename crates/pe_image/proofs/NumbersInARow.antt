@@ -29,7 +29,8 @@ length-fields_bytes [] from to h = omega (arith, h)
 length-fields_bytes (f ∷ fs) from to (here, more) =
     omega (arith, length-append (field_bytes f) (fields_bytes fs), length-field_bytes f, length-fields_bytes fs (from + f.width) to more)
 
-pub field_at-is : (k : ℕ) (bytes : List ℕ) (place : ℕ) → place + k ≤ length bytes → field_at k bytes place ≡ Some (little_number k (drop place bytes))
+pub field_at-is : (k : ℕ) (bytes : List ℕ) (place : ℕ) → place + k ≤ length bytes
+    → field_at k bytes place ≡ Some (little_number k (drop place bytes))
 field_at-is k bytes place h = rw (le-leb (place + k) (length bytes) h) refl
 
 -- a field whose bytes are at a place is read there

@@ -34,7 +34,8 @@ pub record IsWritten (sections : List PeSection) (bytes dat cod : List ℕ) (cli
   pub well_formed : IsWellFormedWith out dat (cli - dat_rva sections)
 
 abbrev known : List PeSection → List ℕ → List ℕ → List ℕ → ℕ → Type 0
-known sections bytes dat cod cli = IsWritable sections (length dat) (length cod) cli × AreBytes bytes × IsInput bytes sections × (cli < 2 ^ 32)
+known sections bytes dat cod cli =
+    IsWritable sections (length dat) (length cod) cli × AreBytes bytes × IsInput bytes sections × (cli < 2 ^ 32)
 
 parts : (sections : List PeSection) (bytes dat cod : List ℕ) (cli : ℕ) → known sections bytes dat cod cli → Parts sections bytes dat cod cli
 parts sections bytes dat cod cli (w, fits, input, c) = record {
@@ -44,7 +45,8 @@ parts sections bytes dat cod cli (w, fits, input, c) = record {
   values = values_in_range sections bytes (length dat) (length cod) cli fits w c;
 }
 
-the_file_is : (sections : List PeSection) (bytes dat cod : List ℕ) (cli : ℕ) → Parts sections bytes dat cod cli → IsWritten sections bytes dat cod cli (the_file sections bytes dat cod cli)
+the_file_is : (sections : List PeSection) (bytes dat cod : List ℕ) (cli : ℕ) → Parts sections bytes dat cod cli
+    → IsWritten sections bytes dat cod cli (the_file sections bytes dat cod cli)
 unfolding written_sections written_length
 the_file_is sections bytes dat cod cli p = record {
   headers = file_fields sections bytes dat cod cli p;
@@ -68,19 +70,23 @@ pub written : (sections : List PeSection) (bytes dat cod : List ℕ) (cli : ℕ)
     → IsWritable sections (length dat) (length cod) cli → AreBytes bytes → IsInput bytes sections → cli < 2 ^ 32
     → out ≡ the_file sections bytes dat cod cli → IsWritten sections bytes dat cod cli out
 written sections bytes dat cod cli out w fits input c e =
-    subst (IsWritten sections bytes dat cod cli) (sym e) (the_file_is sections bytes dat cod cli (parts sections bytes dat cod cli (w, fits, input, c)))
+    subst (IsWritten sections bytes dat cod cli) (sym e) (the_file_is sections bytes dat cod cli
+    (parts sections bytes dat cod cli (w, fits, input, c)))
 
 -- ---- from the steps of the writer, whose list of sections is the input's
 
 pub joined_file : (ss sections : List PeSection) (bytes dat cod : List ℕ) (cli : ℕ) (v : HeaderValues) (dat_s cod_s : PeSection) (out : List ℕ)
-    → ss ≡ sections → dat_s ≡ dat_section ss (length dat) → cod_s ≡ cod_section ss (length dat) (length cod) → v ≡ header_values ss bytes (length dat) (length cod) cli
+    → ss ≡ sections → dat_s ≡ dat_section ss (length dat) → cod_s ≡ cod_section ss (length dat) (length cod)
+    → v ≡ header_values ss bytes (length dat) (length cod) cli
     → out ≡ file_of v (placed_from (raw_start ss) (ss ++ dat_s ∷ cod_s ∷ [])) (raw_parts ss bytes dat cod)
     → out ≡ the_file sections bytes dat cod cli
 unfolding written_sections
 joined_file ss sections bytes dat cod cli v dat_s cod_s out same d c values e =
     e ∙ ap (λ (t : HeaderValues). file_of t (placed_from (raw_start ss) (ss ++ dat_s ∷ cod_s ∷ [])) (raw_parts ss bytes dat cod)) values
-    ∙ ap (λ (t : PeSection). file_of (header_values ss bytes (length dat) (length cod) cli) (placed_from (raw_start ss) (ss ++ t ∷ cod_s ∷ [])) (raw_parts ss bytes dat cod)) d
-    ∙ ap (λ (t : PeSection). file_of (header_values ss bytes (length dat) (length cod) cli) (placed_from (raw_start ss) (ss ++ dat_section ss (length dat) ∷ t ∷ [])) (raw_parts ss bytes dat cod)) c
+    ∙ ap (λ (t : PeSection). file_of (header_values ss bytes (length dat) (length cod) cli)
+    (placed_from (raw_start ss) (ss ++ t ∷ cod_s ∷ [])) (raw_parts ss bytes dat cod)) d
+    ∙ ap (λ (t : PeSection). file_of (header_values ss bytes (length dat) (length cod) cli)
+    (placed_from (raw_start ss) (ss ++ dat_section ss (length dat) ∷ t ∷ [])) (raw_parts ss bytes dat cod)) c
     ∙ ap (λ (t : List PeSection). the_file t bytes dat cod cli) same
 
 pub all_raw : (bytes : List ℕ) (ss : List PeSection) → AllInFile bytes ss → All (IsInFile bytes) ss
@@ -90,23 +96,33 @@ all_raw bytes (s ∷ ss) (h, hs) = All-cons (IsInFile bytes) s ss h (all_raw byt
 pub raw_in_file : (bytes : List ℕ) (ss sections : List PeSection) → ss ≡ sections → IsInput bytes sections → All (IsInFile bytes) ss
 raw_in_file bytes ss sections same input = subst (All (IsInFile bytes)) (sym same) (all_raw bytes sections input.raw)
 
-pub headers_size-is : (ss : List PeSection) (bytes : List ℕ) (dat_len cod_len : ℕ) (sizes : Sizes) → sizes ≡ header_sizes ss bytes dat_len cod_len
+pub headers_size-is : (ss : List PeSection) (bytes : List ℕ) (dat_len cod_len : ℕ) (sizes : Sizes)
+    → sizes ≡ header_sizes ss bytes dat_len cod_len
     → sizes.size_of_headers ≡ raw_start ss
 unfolding header_sizes
 headers_size-is ss bytes dat_len cod_len sizes e = ap (λ (t : Sizes). t.size_of_headers) e
 
-pub cod_end : (ss sections : List PeSection) (dat_len cod_len cli : ℕ) (cod_s : PeSection) → ss ≡ sections → cod_s ≡ cod_section ss dat_len cod_len → IsWritable sections dat_len cod_len cli → cod_s.rva + cod_s.virtual_size < 2 ^ 32
+pub cod_end : (ss sections : List PeSection) (dat_len cod_len cli : ℕ) (cod_s : PeSection) → ss ≡ sections
+    → cod_s ≡ cod_section ss dat_len cod_len → IsWritable sections dat_len cod_len cli → cod_s.rva + cod_s.virtual_size < 2 ^ 32
 cod_end ss sections dat_len cod_len cli cod_s same e w =
     let room = w.room_in_image in
     let dat = aligned-65536 (highest_end ss) in
     let cod = aligned-65536 (dat_rva ss + dat_len) in
-    omega (arith, ap (λ (t : PeSection). t.rva) e, ap (λ (t : PeSection). t.virtual_size) e, ap (λ (t : List PeSection). highest_end t) same)
+    omega (
+      arith,
+      ap (λ (t : PeSection). t.rva) e,
+      ap (λ (t : PeSection). t.virtual_size) e,
+      ap (λ (t : List PeSection). highest_end t)
+          same,
+    )
 
-pub room_in_file : (ss sections : List PeSection) (dat_len cod_len cli : ℕ) (dat_s cod_s : PeSection) → ss ≡ sections → dat_s ≡ dat_section ss dat_len → cod_s ≡ cod_section ss dat_len cod_len → IsWritable sections dat_len cod_len cli
+pub room_in_file : (ss sections : List PeSection) (dat_len cod_len cli : ℕ) (dat_s cod_s : PeSection) → ss ≡ sections
+    → dat_s ≡ dat_section ss dat_len → cod_s ≡ cod_section ss dat_len cod_len → IsWritable sections dat_len cod_len cli
     → end_from (raw_start ss) (ss ++ dat_s ∷ cod_s ∷ []) < 2 ^ 32
 room_in_file ss sections dat_len cod_len cli dat_s cod_s same d c w =
     let is : end_from (raw_start ss) (ss ++ dat_s ∷ cod_s ∷ []) ≡ end_from (raw_start sections) (all_sections sections dat_len cod_len) =
-    ap (λ (t : PeSection). end_from (raw_start ss) (ss ++ t ∷ cod_s ∷ [])) d ∙ ap (λ (t : PeSection). end_from (raw_start ss) (ss ++ dat_section ss dat_len ∷ t ∷ [])) c
+    ap (λ (t : PeSection). end_from (raw_start ss) (ss ++ t ∷ cod_s ∷ [])) d
+    ∙ ap (λ (t : PeSection). end_from (raw_start ss) (ss ++ dat_section ss dat_len ∷ t ∷ [])) c
     ∙ ap (λ (t : List PeSection). end_from (raw_start t) (all_sections t dat_len cod_len)) same in
     omega (arith, is, end_below sections dat_len cod_len, w.room_in_file)
 

@@ -44,11 +44,13 @@ cli-is bytes read sections at start rva len flags token native_rva native_len pl
     let rva-is : rva ≡ u32_of bytes (cli_at bytes + 8) = a ∙ at_place (at + 8) ∙ ap (λ (t : ℕ). u32_of bytes (t + 8)) here in
     let len-is : len ≡ metadata_size bytes = b ∙ at_place (at + 8 + 4) ∙ ap (λ (t : ℕ). u32_of bytes t) twelve in
     let place-is : metadata_place bytes ≡ Some start =
-    ap (λ (t : ℕ). slice_of_rva (sections_of bytes) t (metadata_size bytes)) (sym rva-is) ∙ ap (λ (t : ℕ). slice_of_rva (sections_of bytes) rva t) (sym len-is)
+    ap (λ (t : ℕ). slice_of_rva (sections_of bytes) t (metadata_size bytes)) (sym rva-is)
+    ∙ ap (λ (t : ℕ). slice_of_rva (sections_of bytes) rva t) (sym len-is)
     ∙ ap (λ (t : List PeSection). slice_of_rva t rva len) (sym table) ∙ sym found ∙ is in
     let native-is : native ≡ native_of bytes =
     g ∙ ap (λ (t : ℕ). native_span t native_len) (e ∙ at_place (at + 64) ∙ ap (λ (t : ℕ). u32_of bytes (t + 64)) here)
-    ∙ ap (λ (t : ℕ). native_span (u32_of bytes (cli_at bytes + 64)) t) (f ∙ at_place (at + 64 + 4) ∙ ap (λ (t : ℕ). u32_of bytes t) sixty_eight) in
+    ∙ ap (λ (t : ℕ). native_span (u32_of bytes (cli_at bytes + 64)) t)
+    (f ∙ at_place (at + 64 + 4) ∙ ap (λ (t : ℕ). u32_of bytes t) sixty_eight) in
     record {
       header = ap (λ (t : ℕ). (let s : Span = record { start = t; len = 72 } in s)) here;
       metadata = ap (λ (t : ℕ). (let s : Span = record { start = start; len = t } in s)) len-is

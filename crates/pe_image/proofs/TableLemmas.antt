@@ -35,8 +35,10 @@ HeadersFit-append (s ∷ a) b (h, hs) k = (h, HeadersFit-append a b hs k)
 pub HeadersFit-placed : (ss : List PeSection) (at : ℕ) → HeadersFit ss → end_from at ss < 2 ^ 32 → HeadersFit (placed_from at ss)
 HeadersFit-placed [] at h e = tt
 HeadersFit-placed (s ∷ ss) at (h, hs) e =
-    let low : at < 2 ^ 32 = omega (arith, end_from-grows ss (at + aligned 512 s.raw_size)) in
-    (record { name = h.name; virtual_size = h.virtual_size; rva = h.rva; raw_size = h.raw_size; raw_at = low; flags = h.flags }, HeadersFit-placed ss (at + aligned 512 s.raw_size) hs e)
+    let low : at < 2 ^ 32 = omega (arith, end_from-grows ss (at + aligned 512 s.raw_size)) in (
+      record { name = h.name; virtual_size = h.virtual_size; rva = h.rva; raw_size = h.raw_size; raw_at = low; flags = h.flags },
+      HeadersFit-placed ss (at + aligned 512 s.raw_size) hs e,
+    )
 
 section_fit : (place : ℕ) (s : PeSection) → HeaderFits s → AllFit (section_fields place s)
 section_fit place s h = (h.virtual_size, (h.rva, (h.raw_size, (h.raw_at, (lit< tt, (lit< tt, (lit< tt, (lit< tt, (h.flags, tt)))))))))
@@ -48,7 +50,12 @@ section_covers place s =
 pub length-section_bytes : (s : PeSection) → length s.name ≡ 8 → length (section_bytes s) ≡ 40
 unfolding section_bytes
 length-section_bytes s h =
-    omega (arith, length-append s.name (fields_bytes (section_fields 0 s)), length-fields_bytes (section_fields 0 s) 8 40 (section_covers 0 s))
+    omega (
+      arith,
+      length-append s.name (fields_bytes (section_fields 0 s)),
+      length-fields_bytes (section_fields 0 s) 8 40
+          (section_covers 0 s),
+    )
 
 -- the numbers of a section header whose bytes begin at a place
 section_stands : (bytes rest : List ℕ) (place : ℕ) (s : PeSection) → HeaderFits s → place + 40 ≤ length bytes
@@ -59,7 +66,8 @@ section_stands bytes rest place s h long whole =
     let split : drop place bytes ≡ s.name ++ (numbers ++ rest) = whole ∙ append_assoc s.name numbers rest in
     let after : drop (place + 8) bytes ≡ numbers ++ rest =
     sym (drop-drop 8 place bytes) ∙ ap (λ (t : List ℕ). drop 8 t) split ∙ drop_at s.name (numbers ++ rest) 8 h.name in
-    fields_stand (section_fields place s) bytes rest (place + 8) (place + 40) (section_covers place s) (section_fit place s h) (omega arith) after
+    fields_stand (section_fields place s) bytes rest (place + 8) (place + 40) (section_covers place s) (section_fit place s h)
+    (omega arith) after
 
 abbrev section : List ℕ → ℕ → ℕ → ℕ → ℕ → ℕ → PeSection
 section name virtual_size rva raw_size raw_at flags =
@@ -92,7 +100,8 @@ length-table (s ∷ ss) (h, hs) =
 
 -- what is after the first of some section headers
 next_header : (ss : List PeSection) (bytes rest : List ℕ) (place : ℕ) (s : PeSection) → HeaderFits s
-    → drop place bytes ≡ section_bytes s ++ (flat_map section_bytes ss ++ rest) → drop (place + 40) bytes ≡ flat_map section_bytes ss ++ rest
+    → drop place bytes ≡ section_bytes s ++ (flat_map section_bytes ss ++ rest)
+    → drop (place + 40) bytes ≡ flat_map section_bytes ss ++ rest
 next_header ss bytes rest place s h split =
     sym (drop-drop 40 place bytes) ∙ ap (λ (t : List ℕ). drop 40 t) split
     ∙ drop_at (section_bytes s) (flat_map section_bytes ss ++ rest) 40 (length-section_bytes s h.name)

@@ -12,7 +12,8 @@ use Rattle.pe_image.proofs.PlacesLemmas.{placed_from-append}
 
 pub headers_joined : (front : List ℕ) (ss more : List PeSection) (first start next len : ℕ) (a b c d e : List ℕ)
     → a ≡ [] → b ≡ a ++ front → c ≡ b ++ flat_map section_bytes (placed_from first ss) → next ≡ end_from first ss
-    → d ≡ c ++ flat_map section_bytes (placed_from next more) → len ≡ length d → e ≡ d ++ replicate (aligned 512 len - len) 0 → first ≡ start
+    → d ≡ c ++ flat_map section_bytes (placed_from next more) → len ≡ length d → e ≡ d ++ replicate (aligned 512 len - len) 0
+    → first ≡ start
     → e ≡ padded (front ++ flat_map section_bytes (placed_from start (ss ++ more)))
 unfolding padded
 headers_joined front ss more first start next len a b c d e ea eb ec en ed el ee es =
@@ -25,11 +26,14 @@ headers_joined front ss more first start next len a b c d e ea eb ec en ed el ee
     ∙ ap (λ (t : ℕ). flat_map section_bytes (placed_from t (ss ++ more))) es in
     let b-is : b ≡ front = eb ∙ ap (λ (t : List ℕ). t ++ front) ea in
     let d-is : d ≡ front ++ flat_map section_bytes (placed_from start (ss ++ more)) =
-    ed ∙ ap (λ (t : List ℕ). t ++ others) (ec ∙ ap (λ (t : List ℕ). t ++ table) b-is) ∙ append_assoc front table others ∙ ap (λ (t : List ℕ). front ++ t) whole in
-    ee ∙ ap (λ (t : ℕ). d ++ replicate (aligned 512 t - t) 0) el ∙ ap (λ (t : List ℕ). t ++ replicate (aligned 512 (length t) - length t) 0) d-is
+    ed ∙ ap (λ (t : List ℕ). t ++ others) (ec ∙ ap (λ (t : List ℕ). t ++ table) b-is) ∙ append_assoc front table others
+    ∙ ap (λ (t : List ℕ). front ++ t) whole in
+    ee ∙ ap (λ (t : ℕ). d ++ replicate (aligned 512 t - t) 0) el
+    ∙ ap (λ (t : List ℕ). t ++ replicate (aligned 512 (length t) - length t) 0) d-is
 
 pub parts_joined : (v : HeaderValues) (placed sections : List PeSection) (bytes dat cod : List ℕ) (a b c d : List ℕ)
-    → a ≡ padded (header_bytes v ++ flat_map section_bytes placed) → b ≡ a ++ flat_map padded (map (raw_of bytes) sections) → c ≡ b ++ padded dat → d ≡ c ++ padded cod
+    → a ≡ padded (header_bytes v ++ flat_map section_bytes placed) → b ≡ a ++ flat_map padded (map (raw_of bytes) sections)
+    → c ≡ b ++ padded dat → d ≡ c ++ padded cod
     → d ≡ file_of v placed (raw_parts sections bytes dat cod)
 unfolding file_of raw_parts
 parts_joined v placed sections bytes dat cod a b c d ea eb ec ed =

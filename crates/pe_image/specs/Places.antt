@@ -82,7 +82,8 @@ written_length sections dat_len cod_len = end_from (raw_start sections) (all_sec
 
 -- no file is longer: the headers, all raw bytes, and 512 for each section and once more
 abbrev pub length_bound : List PeSection → ℕ → ℕ → ℕ
-length_bound sections dat_len cod_len = headers_end (length sections + 2) + sum_by (λ s. s.raw_size) sections + dat_len + cod_len + 512 * (length sections + 3)
+length_bound sections dat_len cod_len =
+    headers_end (length sections + 2) + sum_by (λ s. s.raw_size) sections + dat_len + cod_len + 512 * (length sections + 3)
 
 -- raw ranges in order that don't overlap: the first begins at or after a place, each at a multiple of 512, and
 -- the last ends at or before the file's end

@@ -34,12 +34,14 @@ section_alignment_of bytes = u32_of bytes (optional_at bytes + 32)
 
 -- data directory 2 of the input, of the resources: an RVA and a size
 abbrev pub resources_of : List ℕ → Span
-resources_of bytes = let at = optional_at bytes + directories_offset bytes + 16 in record { start = u32_of bytes at; len = u32_of bytes (at + 4) }
+resources_of bytes = let at =
+    optional_at bytes + directories_offset bytes + 16 in record { start = u32_of bytes at; len = u32_of bytes (at + 4) }
 
 -- SizeOfImage: the end of the last section as a multiple of SectionAlignment, and that end itself where there is no
 -- such multiple of 32 bits
 abbrev pub image_size : ℕ → ℕ → ℕ
-image_size alignment image_end = if alignment == 0 || nat_le (2 ^ 32) (aligned alignment image_end) then image_end else aligned alignment image_end
+image_size alignment image_end =
+    if alignment == 0 || nat_le (2 ^ 32) (aligned alignment image_end) then image_end else aligned alignment image_end
 
 -- the COFF header of a written file (PE/COFF 3.3): for A64, an executable image, aware of large addresses, a library
 abbrev pub coff_header : ℕ → CoffHeader
@@ -204,7 +206,8 @@ pub record FindsPart (sections : List PeSection) (bytes : List ℕ) (rva : ℕ) 
 
 -- directory 14 names a CLI header in a section: the 72 bytes at a place of a part
 abbrev pub HasCliHeader : List ℕ → ℕ → List ℕ → ℕ → Type 0
-HasCliHeader bytes rva part start = (place_of bytes rva 72 ≡ Some (cli_at bytes)) × (take 72 (drop (cli_at bytes) bytes) ≡ take 72 (drop start part))
+HasCliHeader bytes rva part start =
+    (place_of bytes rva 72 ≡ Some (cli_at bytes)) × (take 72 (drop (cli_at bytes) bytes) ≡ take 72 (drop start part))
 
 -- read back, the bytes fail at most a check of what their CLI header says: its cb, and the range of the metadata
 abbrev pub FailsLate : List ℕ → Type 0
@@ -213,4 +216,5 @@ FailsLate bytes = (f : Fault) → first_fault pe_checks bytes ≡ Some f → 13 
 -- they fail none where the CLI header at a place of a part has cb of 72 or more and names metadata in a section
 abbrev pub IsWellFormedWith : List ℕ → List ℕ → ℕ → Type 0
 IsWellFormedWith bytes part start =
-    72 ≤ u32_of part start → IsSome (place_of bytes (u32_of part (start + 8)) (u32_of part (start + 12))) → first_fault pe_checks bytes ≡ None
+    72 ≤ u32_of part start → IsSome (place_of bytes (u32_of part (start + 8)) (u32_of part (start + 12))) → first_fault pe_checks bytes ≡
+    None

@@ -30,7 +30,16 @@ impl Model for Pe {
 
     ghost Value = { Headers };
 
-    ghost view = { λ p. record { machine = p.machine; wide = p.wide; sections = p.sections; cli = p.cli.header; metadata = p.cli.metadata; cli_flags = p.cli.flags; entry_token = p.cli.entry_token; native = p.cli.native } };
+    ghost view = { λ p. record {
+      machine = p.machine;
+      wide = p.wide;
+      sections = p.sections;
+      cli = p.cli.header;
+      metadata = p.cli.metadata;
+      cli_flags = p.cli.flags;
+      entry_token = p.cli.entry_token;
+      native = p.cli.native;
+    } };
 
     ghost invariant = { λ p. EndsInReach p.cli.header × EndsInReach p.cli.metadata };
 }
@@ -85,7 +94,7 @@ impl Pe {
         self.cli.header
     }
 
-    /// The metadata, as a range of the file. Where it has no bytes, its start may lie behind the file's end.
+    /// The metadata, as a range of the file. Where it has no bytes, its start may be after the file's end.
     pub fn metadata(&self) -> Span
         ensures range { result ≡ self.now.metadata }
         // It ends at a file offset of 32 bits.

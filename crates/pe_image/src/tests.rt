@@ -115,7 +115,7 @@ fn reads_headers_and_finds_ranges(rt: HostRuntime) -> Result<(), Fail> {
         }),
     };
     assert!(rt; summary_of(&pe) == expected);
-    // In the first section, in both, in the second alone, at its end, behind it, before all, and past 2^32.
+    // In the first section, in both, in the second alone, at its end, after it, before all, and past 2^32.
     let rows = "4096 512 512
 4352 256 768
 4352 257 1024

@@ -237,7 +237,8 @@ impl HeaderValues {
 
     /// Appends the sixteen data directories.
     fn put_directories(&self, out: &mut Vec<u8>) -> Result<(), NoMemory>
-        ensures { OnOk result (out.new.items ≡ out.old.items ++ fields_bytes (directory_fields self.now.resource_table self.now.cli_header)) }
+        ensures { OnOk result (out.new.items ≡ out.old.items
+            ++ fields_bytes (directory_fields self.now.resource_table self.now.cli_header)) }
     {
         put_numbers(
             out,

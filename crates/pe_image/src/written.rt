@@ -40,8 +40,9 @@ impl Sizes {
     /// What the optional header says of the sections of an input and two new ones.
     fn of(section_alignment: u32, section_count: u16, new: &NewSections) -> Sizes
         requires { new.now.cod.rva + new.now.cod.virtual_size < 2 ^ 32 }
-        ensures { (sections : List SectionHeader) (bytes : List ℕ) (dat_len cod_len : ℕ) → section_alignment ≡ section_alignment_of bytes
-            → section_count ≡ length sections + 2 → new.now.dat ≡ dat_section sections dat_len → new.now.cod ≡ cod_section sections dat_len cod_len
+        ensures { (sections : List SectionHeader) (bytes : List ℕ) (dat_len cod_len : ℕ)
+            → section_alignment ≡ section_alignment_of bytes → section_count ≡ length sections + 2
+            → new.now.dat ≡ dat_section sections dat_len → new.now.cod ≡ cod_section sections dat_len cod_len
             → result ≡ header_sizes sections bytes dat_len cod_len }
     {
         let headers_end = headers_end(section_count);
@@ -197,7 +198,8 @@ pub fn write_pe(
     // Each number of the headers is at its place, and the fields are all that the file has before its section table.
     ensures headers { IfOk result (λ out. All (StandsIn out.items)
         (header_fields (header_values input.now.sections bytes.now (length dat.now) (length cod.now) cli_at))) }
-    ensures covered { Covers 0 (header_fields (header_values input.now.sections bytes.now (length dat.now) (length cod.now) cli_at)) written_table_at }
+    ensures covered { Covers 0
+        (header_fields (header_values input.now.sections bytes.now (length dat.now) (length cod.now) cli_at)) written_table_at }
     // The input's section headers with raw places moved, and then the two new ones. They have no relocations and no line numbers.
     ensures sections { IfOk result (λ out. sections_of out.items ≡ written_sections input.now.sections (length dat.now) (length cod.now)) }
     ensures table { IfOk result (λ out. All (StandsIn out.items)

@@ -7,7 +7,8 @@ use Rattle.r2rdump.specs.Text.{numbered, slot_line, import_line}
 use Rattle.r2rdump.specs.OnePass.{imports_in_one_pass}
 
 pub numbered-more : {X : Type 0} (line : ℕ → X → List ℕ) (xs : List X) (i : ℕ) (d : X) (before now all : List ℕ) → i < length xs
-    → now ≡ before ++ line i (get_or xs i d) → before ++ numbered line i (drop i xs) ≡ all → now ++ numbered line (i + 1) (drop (i + 1) xs) ≡ all
+    → now ≡ before ++ line i (get_or xs i d) → before ++ numbered line i (drop i xs) ≡ all
+    → now ++ numbered line (i + 1) (drop (i + 1) xs) ≡ all
 numbered-more line xs i d before now all h e whole =
     rw (e, append_assoc) (rw (drop_more xs i d h) at whole)
 
@@ -16,7 +17,8 @@ pub numbered-end : {X : Type 0} (line : ℕ → X → List ℕ) (xs : List X) (i
 numbered-end line xs i before all h whole = rw (drop_all i xs h, append-nil) at whole
 
 -- a record, and after it the slots of its cells
-pub imports-more : (imports : List ImportSection) (i : ℕ) (d : ImportSection) (rest own others : List Slot) (before mid now all : List ℕ) → i < length imports
+pub imports-more : (imports : List ImportSection) (i : ℕ) (d : ImportSection) (rest own others : List Slot) (before mid now all : List ℕ)
+    → i < length imports
     → own ≡ take ((get_or imports i d).size / 8) rest → others ≡ drop ((get_or imports i d).size / 8) rest
     → mid ≡ before ++ import_line i (get_or imports i d) → now ≡ mid ++ numbered slot_line 0 own
     → before ++ imports_in_one_pass i (drop i imports) rest ≡ all → now ++ imports_in_one_pass (i + 1) (drop (i + 1) imports) others ≡ all

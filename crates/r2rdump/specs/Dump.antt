@@ -37,7 +37,8 @@ IsUntouched written faults old new = (written new ≡ written old) × (faults ne
 
 -- why a dump was refused, and what the sink has then
 abbrev pub IsRefused : {S : Type 0} → (S → Option (List ℕ)) → (S → ℕ) → List ℕ → List ℕ → S → S → DumpRefusal → Type 0
-IsRefused written faults name bytes old new (refusals.Malformed fault) = (first_fault dump_checks bytes ≡ Some fault) × IsUntouched written faults old new
+IsRefused written faults name bytes old new (refusals.Malformed fault) =
+    (first_fault dump_checks bytes ≡ Some fault) × IsUntouched written faults old new
 IsRefused written faults name bytes old new refusals.SinkFailed =
     (first_fault dump_checks bytes ≡ None) × Rose (faults old) (faults new) × PrintsFront written (dump_text name bytes) old new
 IsRefused written faults name bytes old new refusals.NoMemory = IsUntouched written faults old new

@@ -83,8 +83,10 @@ cell_count import = if import.entry_size == 0 then 0 else import.size / import.e
 
 abbrev pub import_line : ℕ → ImportSection → List ℕ
 import_line n import =
-    codes "import " ++ decimal n ++ codes " rva " ++ hex8 import.rva ++ codes " size " ++ hex8 import.size ++ codes " flags " ++ hex4 import.flags
-    ++ codes " type " ++ decimal import.kind ++ codes " entry " ++ decimal import.entry_size ++ codes " slots " ++ decimal (cell_count import) ++ newline
+    codes "import " ++ decimal n ++ codes " rva " ++ hex8 import.rva ++ codes " size " ++ hex8 import.size ++ codes " flags " ++ hex4
+    import.flags
+    ++ codes " type " ++ decimal import.kind ++ codes " entry " ++ decimal import.entry_size ++ codes " slots " ++ decimal
+    (cell_count import) ++ newline
 
 -- a slot by its number in its section, and its signature
 abbrev pub slot_line : ℕ → Slot → List ℕ

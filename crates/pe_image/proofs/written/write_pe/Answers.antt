@@ -15,7 +15,8 @@ use Rattle.pe_image.proofs.Promises.{IsWritten, written, joined_file, raw_in_fil
 use Rattle.pe_image.proofs.written.write_pe.Goals as goal
 
 -- what is known of the input: its sections are those of the bytes
-input_of : (bytes : List ℕ) (h : Headers) → h ≡ headers_of bytes → AreBytes bytes → first_fault pe_checks bytes ≡ None → IsInput bytes h.sections
+input_of : (bytes : List ℕ) (h : Headers) → h ≡ headers_of bytes → AreBytes bytes → first_fault pe_checks bytes ≡ None
+    → IsInput bytes h.sections
 input_of bytes h read fits none = subst (IsInput bytes) (sym (ap (λ (t : Headers). t.sections) read)) (is_input bytes fits none)
 
 pub of-copied-requires-clause-signature : goal.of-copied-requires-clause-signature
@@ -26,16 +27,20 @@ of-copied-requires-clause-signature c =
 
 pub of-sizes-requires : goal.of-sizes-requires
 of-sizes-requires c =
-    cod_end c.sections-sections.result.now c.args.input.now.sections (length c.args.dat.now) (length c.args.cod.now) c.args.cli_at c.after-new.result.cod
+    cod_end c.sections-sections.result.now c.args.input.now.sections (length c.args.dat.now) (length c.args.cod.now) c.args.cli_at
+    c.after-new.result.cod
     c.sections-sections.ensures c.after-new.ensures.cod c.requires.writable
 
 pub join-requires : goal.join-requires
 join-requires c = record {
   first = ap (λ (t : OptionalHeader). t.size_of_headers) c.of-2.ensures
-      ∙ headers_size-is c.sections-sections.result.now c.args.bytes.now (length c.args.dat.now) (length c.args.cod.now) c.of-sizes.result (c.of-sizes.ensures c.sections-sections.result.now c.args.bytes.now (length c.args.dat.now) (length c.args.cod.now)
-      (c.of-copied.ensures.section_alignment ∙ ap (λ (t : List ℕ). section_alignment_of t) c.new.ensures) (omega arith) c.after-new.ensures.dat c.after-new.ensures.cod);
+      ∙ headers_size-is c.sections-sections.result.now c.args.bytes.now (length c.args.dat.now) (length c.args.cod.now) c.of-sizes.result
+      (c.of-sizes.ensures c.sections-sections.result.now c.args.bytes.now (length c.args.dat.now) (length c.args.cod.now)
+      (c.of-copied.ensures.section_alignment ∙ ap (λ (t : List ℕ). section_alignment_of t) c.new.ensures) (omega arith)
+      c.after-new.ensures.dat c.after-new.ensures.cod);
   room = room_in_file c.sections-sections.result.now c.args.input.now.sections (length c.args.dat.now) (length c.args.cod.now) c.args.cli_at
-      c.after-new.result.dat c.after-new.result.cod c.sections-sections.ensures c.after-new.ensures.dat c.after-new.ensures.cod c.requires.writable;
+      c.after-new.result.dat c.after-new.result.cod c.sections-sections.ensures c.after-new.ensures.dat c.after-new.ensures.cod
+      c.requires.writable;
   raw = raw_in_file c.args.bytes.now c.sections-sections.result.now c.args.input.now.sections c.sections-sections.ensures
       (input_of c.args.bytes.now c.args.input.now c.requires.read (λ i. omega (arith, c.type_inv.bytes i)) c.requires.well_formed);
   dat = omega (arith, c.requires.writable.room_in_image);
@@ -51,15 +56,19 @@ values_are : (c : goal.After-join) → (let v : HeaderValues = record {
 } in v)
     ≡ header_values c.sections-sections.result.now c.args.bytes.now (length c.args.dat.now) (length c.args.cod.now) c.args.cli_at
 values_are c =
-    values-are c.sections-sections.result.now c.args.bytes.now (length c.args.dat.now) (length c.args.cod.now) c.args.cli_at _ c.of.result c.of-2.result
-    c.of-sizes.result c.of-copied.result.resource_table c.of.ensures (omega arith) c.of-2.ensures (c.of-sizes.ensures c.sections-sections.result.now c.args.bytes.now (length c.args.dat.now) (length c.args.cod.now)
-    (c.of-copied.ensures.section_alignment ∙ ap (λ (t : List ℕ). section_alignment_of t) c.new.ensures) (omega arith) c.after-new.ensures.dat c.after-new.ensures.cod)
+    values-are c.sections-sections.result.now c.args.bytes.now (length c.args.dat.now) (length c.args.cod.now) c.args.cli_at _ c.of.result
+    c.of-2.result
+    c.of-sizes.result c.of-copied.result.resource_table c.of.ensures (omega arith) c.of-2.ensures
+    (c.of-sizes.ensures c.sections-sections.result.now c.args.bytes.now (length c.args.dat.now) (length c.args.cod.now)
+    (c.of-copied.ensures.section_alignment ∙ ap (λ (t : List ℕ). section_alignment_of t) c.new.ensures) (omega arith)
+    c.after-new.ensures.dat c.after-new.ensures.cod)
     (c.of-copied.ensures.resource_table ∙ ap (λ (t : List ℕ). resources_of t) c.new.ensures)
 
 -- the file has all that it promises
 file_written : (c : goal.After-join) (out : List ℕ)
     → out ≡ file_of (record { coff = c.of.result; optional = c.of-2.result; resource_table = c.of-copied.result.resource_table; cli_header = record { start = c.args.cli_at; len = 72 } })
-    (placed_from (raw_start c.sections-sections.result.now) (c.sections-sections.result.now ++ c.after-new.result.dat ∷ c.after-new.result.cod ∷ []))
+    (placed_from (raw_start c.sections-sections.result.now) (c.sections-sections.result.now ++ c.after-new.result.dat ∷
+    c.after-new.result.cod ∷ []))
     (raw_parts c.sections-sections.result.now c.args.bytes.now c.args.dat.now c.args.cod.now)
     → IsWritten c.args.input.now.sections c.args.bytes.now c.args.dat.now c.args.cod.now c.args.cli_at out
 file_written c out e =
@@ -68,7 +77,8 @@ file_written c out e =
     (input_of c.args.bytes.now c.args.input.now c.requires.read (λ i. omega (arith, c.type_inv.bytes i)) c.requires.well_formed)
     c.ranges.cli_at.fits
     (joined_file c.sections-sections.result.now c.args.input.now.sections c.args.bytes.now c.args.dat.now c.args.cod.now c.args.cli_at _
-    c.after-new.result.dat c.after-new.result.cod out c.sections-sections.ensures c.after-new.ensures.dat c.after-new.ensures.cod (values_are c) e)
+    c.after-new.result.dat c.after-new.result.cod out c.sections-sections.ensures c.after-new.ensures.dat c.after-new.ensures.cod
+    (values_are c) e)
 
 pub returns-clause-headers : goal.returns-clause-headers
 returns-clause-headers c = ok_then _ _ c.join.result (λ out e. (file_written c out.items e).headers) c.join.ensures
@@ -77,7 +87,8 @@ pub returns-clause-sections : goal.returns-clause-sections
 returns-clause-sections c = ok_then _ _ c.join.result (λ out e. (file_written c out.items e).records) c.join.ensures
 
 pub returns-clause-covered : goal.returns-clause-covered
-returns-clause-covered c = header_covers (header_values c.args.input.now.sections c.args.bytes.now (length c.args.dat.now) (length c.args.cod.now) c.args.cli_at)
+returns-clause-covered c =
+    header_covers (header_values c.args.input.now.sections c.args.bytes.now (length c.args.dat.now) (length c.args.cod.now) c.args.cli_at)
 
 pub returns-clause-table : goal.returns-clause-table
 returns-clause-table c = ok_then _ _ c.join.result (λ out e. (file_written c out.items e).table) c.join.ensures

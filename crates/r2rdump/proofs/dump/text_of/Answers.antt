@@ -15,7 +15,8 @@ use Rattle.r2rdump.proofs.SlotsOfSections.{one_pass-is}
 use Rattle.r2rdump.proofs.dump.text_of.Goals as goal
 
 -- a refusal by the first checks is one by all
-refused_first : (bytes : List ℕ) (e : ReadRefusal) → RefusedBy (first_fault pe_checks bytes) e → RefusedBy (first_fault (pe_checks ++ rtr_checks 16777215) bytes) e
+refused_first : (bytes : List ℕ) (e : ReadRefusal) → RefusedBy (first_fault pe_checks bytes) e
+    → RefusedBy (first_fault (pe_checks ++ rtr_checks 16777215) bytes) e
 refused_first bytes (refusals.Malformed f) h = first_fault-append_some pe_checks (rtr_checks 16777215) bytes f h
 refused_first bytes refusals.NoMemory h = tt
 
@@ -29,7 +30,9 @@ pub returns-in_err-image-clause-malformed : goal.returns-in_err-image-clause-mal
 unfolding dump_checks
 returns-in_err-image-clause-malformed c =
     let p = err_from_is_err_and c.from_residual-in_err-image.result c.from_residual-in_err-image.ensures.1 in
-    rw (p.1, p.2) (subst (λ (o : Option Fault). RefusedBy o c.in_err-image.field-0.0) (sym (first_fault-append pe_checks (rtr_checks 16777215) c.args.bytes.now c.in_ok-pe.ensures.well_formed)) c.in_err-image.ensures.malformed)
+    rw (p.1, p.2) (subst (λ (o : Option Fault). RefusedBy o c.in_err-image.field-0.0)
+    (sym (first_fault-append pe_checks (rtr_checks 16777215) c.args.bytes.now c.in_ok-pe.ensures.well_formed))
+    c.in_err-image.ensures.malformed)
 
 pub returns-clause-text : goal.returns-clause-text
 returns-clause-text c =

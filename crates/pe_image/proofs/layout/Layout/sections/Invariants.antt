@@ -14,6 +14,7 @@ invariant-loop-i l =
       -- what was read and what is left are all of the table
       read : l.sections.items ++ records (section_at bytes) at 40 left ≡ sections_of bytes;
       -- the first bad one is among those that are left
-      checked : first_record (raw_range_fits bytes) at 40 left ≡ first_record (raw_range_fits bytes) (section_table_at bytes) 40 (section_count bytes);
+      checked : first_record (raw_range_fits bytes) at 40 left ≡ first_record (raw_range_fits bytes) (section_table_at bytes) 40
+          (section_count bytes);
       in_reach : All IsInReach l.sections.items;
     }

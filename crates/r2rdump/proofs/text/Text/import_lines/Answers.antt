@@ -12,8 +12,10 @@ loop-number-preserved c =
     let rest = c.loop-number.rest.now in
     let all = c.args.self.now ++ imports_in_one_pass 0 c.args.imports.now c.args.slots.now in
     record {
-      spellable = All-same HasSpelling c.split_slots.result.1.now _ c.split_slots.ensures.others (All-drop HasSpelling _ rest c.loop-number.invariant.spellable);
+      spellable = All-same HasSpelling c.split_slots.result.1.now _ c.split_slots.ensures.others
+          (All-drop HasSpelling _ rest c.loop-number.invariant.spellable);
       lines = imports-more c.args.imports.now c.loop-number.number _ rest c.split_slots.result.0.now c.split_slots.result.1.now
-          c.loop-number.self c.import_line.new.self c.slot_lines.new.self all (omega arith) c.split_slots.ensures.own c.split_slots.ensures.others
+          c.loop-number.self c.import_line.new.self c.slot_lines.new.self all (omega arith) c.split_slots.ensures.own
+          c.split_slots.ensures.others
           c.in_ok-import_line.ensures c.in_ok-slot_lines.ensures c.loop-number.invariant.lines;
     }
