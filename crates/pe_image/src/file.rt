@@ -48,7 +48,8 @@ impl<'a> FileBytes<'a> {
 
     /// The 32-bit number at a place, and 0 where its bytes pass the end.
     pub(crate) fn u32(&self, at: u32) -> u32
-        ensures { result ≡ u32_of self.now at }
+        ensures number { result ≡ u32_of self.now at }
+        ensures small { length self.now ≤ 2 ^ 31 }
     {
         u32_or_zero(self.bytes, at)
     }

@@ -298,7 +298,6 @@ impl Copied {
         ensures section_alignment { result.section_alignment ≡ section_alignment_of input.now }
         ensures resource_table { result.resource_table ≡ resources_of input.now }
     {
-        let _len = input.len();
         let optional = input.u32(SIGNATURE_PLACE) + OPTIONAL_HEADER;
         let directories = optional + directories_offset(wide);
         let resources = directories + RESOURCE_DIRECTORY * DIRECTORY_SIZE;
