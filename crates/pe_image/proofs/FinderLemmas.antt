@@ -16,7 +16,8 @@ use Rattle.pe_image.specs.Finder.{holds, IsStairs, IsLevel, run_width, AreLevels
 
 -- ---- find by halves
 
-none_step : {X : Type 0} (here later : Bool) (x : X) (found o : Option X) → (later ≡ false → option_or found o ≡ o) → (here || later) ≡ false → option_or (cond here (Some x) found) o ≡ o
+none_step : {X : Type 0} (here later : Bool) (x : X) (found o : Option X) → (later ≡ false → option_or found o ≡ o)
+    → (here || later) ≡ false → option_or (cond here (Some x) found) o ≡ o
 none_step true later x found o f h = absurd (let y : ⊥ = cc in y)
 none_step false later x found o f h = f h
 
@@ -24,7 +25,8 @@ none_found : {X : Type 0} (p : X → Bool) (xs : List X) (o : Option X) → list
 none_found p [] o h = refl
 none_found p (x ∷ xs) o h = none_step (p x) (list_any p xs) x (find p xs) o (none_found p xs o) h
 
-one_step : {X : Type 0} (here later : Bool) (x : X) (found o : Option X) → (later ≡ true → option_or found o ≡ found) → (here || later) ≡ true → option_or (cond here (Some x) found) o ≡ cond here (Some x) found
+one_step : {X : Type 0} (here later : Bool) (x : X) (found o : Option X) → (later ≡ true → option_or found o ≡ found)
+    → (here || later) ≡ true → option_or (cond here (Some x) found) o ≡ cond here (Some x) found
 one_step true later x found o f h = refl
 one_step false later x found o f h = f h
 
@@ -32,7 +34,8 @@ one_found : {X : Type 0} (p : X → Bool) (xs : List X) (o : Option X) → list_
 one_found p [] o h = absurd (let y : ⊥ = cc in y)
 one_found p (x ∷ xs) o h = one_step (p x) (list_any p xs) x (find p xs) o (one_found p xs o) h
 
-halves : {X : Type 0} (p : X → Bool) (w at : ℕ) (xs : List X) → find p (take (w + w) (drop at xs)) ≡ option_or (find p (take w (drop at xs))) (find p (take w (drop (at + w) xs)))
+halves : {X : Type 0} (p : X → Bool) (w at : ℕ) (xs : List X)
+    → find p (take (w + w) (drop at xs)) ≡ option_or (find p (take w (drop at xs))) (find p (take w (drop (at + w) xs)))
 halves p w at xs =
     ap (find p) (take-add w w (drop at xs)) ∙ find-append p (take w (drop at xs)) (take w (drop w (drop at xs)))
     ∙ ap (λ t. option_or (find p (take w (drop at xs))) (find p (take w t))) (drop-drop w at xs)
@@ -51,7 +54,7 @@ take_whole zero (x ∷ xs) h = absurd (let y : ⊥ = omega arith in y)
 take_whole (suc n) [] h = refl
 take_whole (suc n) (x ∷ xs) h = ap (λ t. x ∷ t) (take_whole n xs (omega arith))
 
--- nothing is behind the first half
+-- nothing is after the first half
 pub in_only : {X : Type 0} (p : X → Bool) (w at : ℕ) (xs : List X) → length xs ≤ at + w
     → find p (take w (drop at xs)) ≡ find p (take (w + w) (drop at xs))
 in_only p w at xs h =
@@ -64,7 +67,8 @@ pub run_width-positive : (levels : List Level) → 16 ≤ run_width levels
 run_width-positive [] = omega arith
 run_width-positive (level ∷ levels) = omega (arith, run_width-positive levels)
 
-pub width_at : (levels : List Level) (i : ℕ) → i < length levels → run_width (drop i levels) ≡ run_width (drop (suc i) levels) + run_width (drop (suc i) levels)
+pub width_at : (levels : List Level) (i : ℕ) → i < length levels
+    → run_width (drop i levels) ≡ run_width (drop (suc i) levels) + run_width (drop (suc i) levels)
 width_at [] i h = absurd (let x : ⊥ = omega arith in x)
 width_at (level ∷ levels) zero h = refl
 width_at (level ∷ levels) (suc i) h = width_at levels i (omega arith)
@@ -79,7 +83,7 @@ double : (w j : ℕ) → w * j + w * j ≡ w * (j + j)
 double w j = omega arith
 
 -- A level's half of the run at a place: twice its width is the run's, it begins at a multiple of its width, as what is behind it
--- does, and its stairs are among the level's where there are sections behind it.
+-- does, and its stairs are among the level's where there are sections after it.
 pub record Half (steps : List Step) (sections : List PeSection) (left : List Level) (width at : ℕ) : Type 0 where
   pub twice : width ≡ width / 2 + width / 2
   pub next : width / 2 ≡ run_width left
@@ -97,12 +101,14 @@ half own_levels levels sections i level steps width at j are_own levels_own belo
     let items = (get_or levels i level).steps.items in
     let both : width ≡ w + w = wide ∙ width_at levels i below in
     let once : width / 2 ≡ w = omega arith in
-    let left : run_width (drop (suc i) levels) ≡ run_width (drop (i + 1) levels) = ap (λ (t : ℕ). run_width (drop t levels)) (sym (add-one i)) in
+    let left : run_width (drop (suc i) levels) ≡ run_width (drop (i + 1) levels) =
+    ap (λ (t : ℕ). run_width (drop t levels)) (sym (add-one i)) in
     let here : at ≡ w * j + w * j = place ∙ ap (λ (t : ℕ). t * j) both ∙ omega arith in
     let from : at / 2 ≡ w * j = omega arith in
     let same : items ≡ steps = ap (λ (t : Level). t.steps.items) (sym is) ∙ sym own in
     let stairs_is : take w (drop (w * j) items) ≡ take (width / 2) (drop (at / 2) steps) =
-    ap (λ (t : List Step). take w (drop (w * j) t)) same ∙ ap (λ (t : ℕ). take w (drop t steps)) (sym from) ∙ ap (λ (t : ℕ). take t (drop (at / 2) steps)) (sym once) in
+    ap (λ (t : List Step). take w (drop (w * j) t)) same ∙ ap (λ (t : ℕ). take w (drop t steps)) (sym from)
+    ∙ ap (λ (t : ℕ). take t (drop (at / 2) steps)) (sym once) in
     let run_is : take w (drop (w * j + w * j) sections) ≡ take (width / 2) (drop at sections) =
     ap (λ (t : ℕ). take w (drop t sections)) (sym here) ∙ ap (λ (t : ℕ). take t (drop at sections)) (sym once) in
     let P : List Step → Type 0 = λ t. IsStairs t (take w (drop (w * j + w * j) sections)) in
@@ -134,7 +140,7 @@ stays p steps sections all left width at stand h any =
       found = in_first p (width / 2) at sections any ∙ ap (λ (t : ℕ). find p (take t (drop at sections))) (sym h.twice) ∙ stand.found;
     }
 
--- or where nothing is behind it
+-- or where nothing is after it
 pub stays_last : (p : PeSection → Bool) (steps : List Step) (sections : List PeSection) (all left : List Level) (width at : ℕ)
     → StandsAt p sections all width at → Half steps sections left width at → length sections ≤ at + width / 2
     → StandsAt p sections left (width / 2) at
@@ -148,7 +154,8 @@ stays_last p steps sections all left width at stand h last =
 
 -- and else for its second half
 pub goes_on : (p : PeSection → Bool) (steps : List Step) (sections : List PeSection) (all left : List Level) (width at : ℕ)
-    → StandsAt p sections all width at → Half steps sections left width at → at + width / 2 < length sections → list_any p (take (width / 2) (drop at sections)) ≡ false
+    → StandsAt p sections all width at → Half steps sections left width at → at + width / 2 < length sections
+    → list_any p (take (width / 2) (drop at sections)) ≡ false
     → StandsAt p sections left (width / 2) (at + width / 2)
 goes_on p steps sections all left width at stand h room none =
     record {
@@ -159,25 +166,29 @@ goes_on p steps sections all left width at stand h room none =
     }
 
 -- what the stairs tell, the run's sections do
-pub told : (rva len end size width from : ℕ) (steps : List Step) (run : List PeSection) (answer b : Bool) → end ≡ rva + len → size ≡ width
-    → IsStairs (take width (drop from steps)) run → answer ≡ list_any (holds rva end) (take size (drop from steps)) → answer ≡ b → list_any (has_range rva len) run ≡ b
-told rva len end size width from steps run answer b ends sizes s e is =
+pub answered : (rva len end size width from : ℕ) (steps : List Step) (run : List PeSection) (answer b : Bool) → end ≡ rva + len
+    → size ≡ width
+    → IsStairs (take width (drop from steps)) run → answer ≡ list_any (holds rva end) (take size (drop from steps)) → answer ≡ b
+    → list_any (has_range rva len) run ≡ b
+answered rva len end size width from steps run answer b ends sizes s e is =
     sym (s.same rva len) ∙ ap (λ (t : ℕ). list_any (holds rva t) (take width (drop from steps))) (sym ends)
     ∙ ap (λ (t : ℕ). list_any (holds rva end) (take t (drop from steps))) (sym sizes) ∙ sym e ∙ is
 
 -- the stairs of a run of so many sections end within their level
-pub within : (w from at : ℕ) (steps : List Step) (sections : List PeSection) → 0 < w → at + w < length sections → IsStairs (take w (drop from steps)) (take w (drop at sections)) → from + w ≤ length steps
+pub within : (w from at : ℕ) (steps : List Step) (sections : List PeSection) → 0 < w → at + w < length sections
+    → IsStairs (take w (drop from steps)) (take w (drop at sections)) → from + w ≤ length steps
 within w from at steps sections some room s =
     let whole : length (take w (drop at sections)) ≡ w = length-take-le w (drop at sections) (omega (arith, length-drop at sections)) in
     omega (arith, s.count, whole, length-take w (drop from steps), length-drop from steps)
 
--- ---- the runs of a level, made one behind the other
+-- ---- the runs of a level, made one after the other
 
 times_more : (w j k : ℕ) → j < k → w * j + w ≤ w * k
 times_more w j k h = let e : w * suc j ≤ w * k = mul-le-mul_left {m = suc j} {n = k} w (omega arith) in omega (arith, e, mul-suc w j)
 
 abbrev RunsBelow : ℕ → ℕ → List Step → List PeSection → Type 0
-RunsBelow count width steps sections = (j : ℕ) → j < count → IsStairs (take width (drop (width * j) steps)) (take width (drop (width * j + width * j) sections))
+RunsBelow count width steps sections =
+    (j : ℕ) → j < count → IsStairs (take width (drop (width * j) steps)) (take width (drop (width * j + width * j) sections))
 
 runs_more : (count width : ℕ) (steps run : List Step) (sections : List PeSection)
     → length steps ≡ width * count → length run ≡ width → RunsBelow count width steps sections
@@ -191,7 +202,8 @@ runs_more count width steps run sections long whole so_far one j below =
           let fits : at + width ≤ width * count = times_more width j count first in
           let front : at ≤ length steps = omega arith in
           let room : width ≤ length (drop at steps) = omega (arith, length-drop at steps) in
-          subst P (sym (ap (take width) (drop-append-le at steps run front) ∙ take-append-le width (drop at steps) run room)) (so_far j first)
+          subst P (sym (ap (take width) (drop-append-le at steps run front) ∙ take-append-le width (drop at steps) run room))
+          (so_far j first)
       | inr last ↦
           let here : j ≡ count = omega arith in
           let seam : drop at (steps ++ run) ≡ run = drop_at steps run at (long ∙ ap (λ (t : ℕ). width * t) (sym here)) in
@@ -200,9 +212,10 @@ runs_more count width steps run sections long whole so_far one j below =
           subst P (sym own) (subst Q (sym here) one)
     ]
 
--- so many runs are done up to a place, and their stairs stand one behind the other
+-- so many runs are done up to a place, and their stairs are one after the other
 abbrev pub Runs : ℕ → ℕ → List Step → List PeSection → Type 0
-Runs width at steps sections = (count : ℕ) × (at ≡ width * count + width * count) × (length steps ≡ width * count) × RunsBelow count width steps sections
+Runs width at steps sections =
+    (count : ℕ) × (at ≡ width * count + width * count) × (length steps ≡ width * count) × RunsBelow count width steps sections
 
 pub one_run_more : (width at : ℕ) (steps run : List Step) (part sections : List PeSection)
     → at + width < length sections → part ≡ take width (drop at sections) → IsStairs run part → Runs width at steps sections
@@ -213,16 +226,23 @@ one_run_more width at steps run part sections room cut one runs =
     let Q : ℕ → Type 0 = λ t. IsStairs run (take width (drop t sections)) in
     let behind : width ≤ length (drop at sections) = omega (arith, length-drop at sections) in
     let long : length run ≡ width = one.count ∙ ap length cut ∙ length-take-le width (drop at sections) behind in
-    let whole : length (steps ++ run) ≡ width * suc count = omega (arith, length-append steps run, runs.2, long, mul-suc width count) in
-    (suc count, omega (arith, runs.1, mul-suc width count), whole, runs_more count width steps run sections runs.2 long runs.3 (subst Q runs.1 (subst P cut one)))
+    let whole : length (steps ++ run) ≡ width * suc count = omega (arith, length-append steps run, runs.2, long, mul-suc width count) in (
+      suc count,
+      omega (arith, runs.1, mul-suc width count),
+      whole,
+      runs_more count width steps run sections runs.2 long runs.3
+          (subst Q runs.1 (subst P cut one)),
+    )
 
 pub no_runs : (width : ℕ) (sections : List PeSection) → Runs width 0 [] sections
 no_runs width sections = (0, omega arith, omega arith, λ j below. absurd (let x : ⊥ = omega arith in x))
 
--- every second run that has more sections behind it is there
-pub all_runs : (width at : ℕ) (steps : List Step) (sections : List PeSection) → length sections ≤ at + width → Runs width at steps sections → IsLevel width steps sections
+-- every second run that has more sections after it is there
+pub all_runs : (width at : ℕ) (steps : List Step) (sections : List PeSection) → length sections ≤ at + width
+    → Runs width at steps sections → IsLevel width steps sections
 all_runs width at steps sections done runs j room =
     elim (cases_lt j runs.0) [
       | inl first ↦ runs.3 j first
-      | inr last ↦ absurd (let e : width * runs.0 ≤ width * j = mul-le-mul_left {m = runs.0} {n = j} width last in let x : ⊥ = omega (arith, runs.1) in x)
+      | inr last ↦ absurd (let e : width * runs.0 ≤ width * j = mul-le-mul_left {m = runs.0} {n = j} width last in let x : ⊥ = omega
+          (arith, runs.1) in x)
     ]

@@ -1,198 +1,95 @@
--- The numbers of the written headers, at their places.
-use Rattle.std.proofs.Common.{◌≡◌, ℕ, ◌^◌, ◌<◌, List, ◌++◌, length, Some, refl, lit<}
-use Rattle.std.specs.Prelude.{All}
-use Rattle.std.proofs.lemmas.List.Elements.{All-from_recursion}
-use Rattle.pe_image.specs.declared.numbers.Number.{Number}
-use Rattle.pe_image.specs.declared.numbers.Number.TheVariants.{Two, Four, Eight}
+-- The headers up to the section table: each number is at its place.
+use Rattle.std.proofs.Common.{◌≡◌, ℕ, ◌+◌, ◌^◌, ◌<◌, ◌≤◌, Bool, true, ◌&&◌, List, [], ◌∷◌, ◌++◌, length, drop, Option, refl, ap, lit<, arith, length-append}
+use Rattle.std.specs.Prelude.{All, unwrap_or, ◌==◌}
+use Rattle.std.proofs.lemmas.Bool.{and_parts, eqb-true}
+use Rattle.rtr_bytes.specs.declared.fault.Span.{Span}
+use Rattle.rtr_bytes.specs.Field.{u16_of}
 use Rattle.pe_image.specs.declared.values.HeaderValues.{HeaderValues}
-use Rattle.pe_image.specs.Pieces.{header_numbers, header_bytes, first_numbers, optional_numbers, directory_numbers}
-use Rattle.pe_image.specs.Written.{at, StandsIn, header_fields}
-use Rattle.pe_image.proofs.NumbersInARow.{AllFit, AllFit-append, width_of, value_of, number_at, number_at-stands, length-numbers_bytes}
+use Rattle.pe_image.specs.declared.values.Sizes.{Sizes}
+use Rattle.pe_image.specs.Places.{written_table_at}
+use Rattle.pe_image.specs.Pieces.{header_bytes}
+use Rattle.pe_image.specs.Written.{HeaderField, at, coff_header, optional_header, dos_fields, coff_fields, optional_fields, directory_fields, header_fields, StandsIn, Covers}
+use Rattle.pe_image.proofs.NumbersInARow.{AllFit, AllFit-append, field_stands, fields_stand, length-fields_bytes}
 
-pub record AreInRange (v : HeaderValues) : Type 0 where
-  pub section_count : v.section_count < 2 ^ 16
-  pub section_alignment : v.section_alignment < 2 ^ 32
-  pub code_size : v.code_size < 2 ^ 32
-  pub data_size : v.data_size < 2 ^ 32
-  pub code_rva : v.code_rva < 2 ^ 32
-  pub image_size : v.image_size < 2 ^ 32
-  pub headers_size : v.headers_size < 2 ^ 32
-  pub resources_start : v.resources.start < 2 ^ 32
-  pub resources_len : v.resources.len < 2 ^ 32
-  pub cli_at : v.cli_at < 2 ^ 32
+-- the headers of so many sections, with these sizes and directories
+abbrev pub values : ℕ → Sizes → Span → Span → HeaderValues
+values count sizes resources cli =
+    record { coff = coff_header count; optional = optional_header sizes; resource_table = resources; cli_header = cli }
 
-first_fit : (v : HeaderValues) → AreInRange v → AllFit (first_numbers v)
-first_fit v h =
-    (lit< tt, (lit< tt, (lit< tt, (lit< tt, (lit< tt, (lit< tt, (lit< tt, (lit< tt, (lit< tt, (lit< tt, (lit< tt, (lit< tt, (h.section_count, (lit< tt, (lit< tt, (lit< tt, (lit< tt, (lit< tt, tt))))))))))))))))))
+pub record AreInRange (count : ℕ) (z : Sizes) (resources cli : Span) : Type 0 where
+  pub section_count : count < 2 ^ 16
+  pub size_of_code : z.size_of_code < 2 ^ 32
+  pub size_of_initialized_data : z.size_of_initialized_data < 2 ^ 32
+  pub base_of_code : z.base_of_code < 2 ^ 32
+  pub section_alignment : z.section_alignment < 2 ^ 32
+  pub size_of_image : z.size_of_image < 2 ^ 32
+  pub size_of_headers : z.size_of_headers < 2 ^ 32
+  pub resources_start : resources.start < 2 ^ 32
+  pub resources_len : resources.len < 2 ^ 32
+  pub cli_start : cli.start < 2 ^ 32
+  pub cli_len : cli.len < 2 ^ 32
 
-optional_fit : (v : HeaderValues) → AreInRange v → AllFit (optional_numbers v)
-optional_fit v h =
-    (lit< tt, (lit< tt, (lit< tt, (h.code_size, (h.data_size, (lit< tt, (lit< tt, (h.code_rva, (lit< tt, (h.section_alignment, (lit< tt, (lit< tt, (lit< tt, (lit< tt, (lit< tt, (lit< tt, (lit< tt, (h.image_size, (h.headers_size, (lit< tt, (lit< tt, (lit< tt, (lit< tt, (lit< tt, (lit< tt, (lit< tt, (lit< tt, (lit< tt, tt))))))))))))))))))))))))))))
+coff_fit : (count : ℕ) → count < 2 ^ 16 → AllFit (coff_fields (coff_header count))
+coff_fit count h = (lit< tt, (h, (lit< tt, (lit< tt, (lit< tt, (lit< tt, (lit< tt, tt)))))))
 
-directory_fit : (v : HeaderValues) → AreInRange v → AllFit (directory_numbers v)
-directory_fit v h =
-    (lit< tt, (lit< tt, (h.resources_start, (h.resources_len, (lit< tt, (lit< tt, (lit< tt, (lit< tt, (lit< tt, (lit< tt, (lit< tt, (lit< tt, (lit< tt, (lit< tt, (lit< tt, (h.cli_at, (lit< tt, (lit< tt, tt))))))))))))))))))
+optional_fit : (count : ℕ) (z : Sizes) (resources cli : Span) → AreInRange count z resources cli
+    → AllFit (optional_fields (optional_header z))
+optional_fit count z resources cli h =
+    let fields = optional_fields (optional_header z) in
+    let e : AllFit (drop 22 fields) = (lit< tt, (lit< tt, (lit< tt, (lit< tt, (lit< tt, (lit< tt, (lit< tt, tt))))))) in
+    let d : AllFit (drop 18 fields) = (h.size_of_image, (h.size_of_headers, (lit< tt, (lit< tt, e)))) in
+    let c : AllFit (drop 10 fields) = (lit< tt, (lit< tt, (lit< tt, (lit< tt, (lit< tt, (lit< tt, (lit< tt, (lit< tt, d)))))))) in
+    let b : AllFit (drop 5 fields) = (lit< tt, (lit< tt, (h.base_of_code, (lit< tt, (h.section_alignment, c))))) in
+    (lit< tt, (lit< tt, (lit< tt, (h.size_of_code, (h.size_of_initialized_data, b)))))
 
-header_fits : (v : HeaderValues) → AreInRange v → AllFit (header_numbers v)
-header_fits v h =
-    AllFit-append (first_numbers v ++ optional_numbers v) (directory_numbers v) (AllFit-append (first_numbers v) (optional_numbers v) (first_fit v h) (optional_fit v h)) (directory_fit v h)
+directory_fit : (count : ℕ) (z : Sizes) (resources cli : Span) → AreInRange count z resources cli → AllFit (directory_fields resources cli)
+directory_fit count z resources cli h =
+    let fields = directory_fields resources cli in
+    let b : AllFit (drop 10 fields) = (lit< tt, (lit< tt, (lit< tt, (lit< tt, (lit< tt, (h.cli_start, (h.cli_len, (lit< tt, tt)))))))) in
+    let a : AllFit (drop 4 fields) = (lit< tt, (lit< tt, (lit< tt, (lit< tt, (lit< tt, (lit< tt, b)))))) in
+    (lit< tt, (lit< tt, (h.resources_start, (h.resources_len, a))))
+
+header_fit : (count : ℕ) (z : Sizes) (resources cli : Span) → AreInRange count z resources cli
+    → AllFit (header_fields (values count z resources cli))
+header_fit count z resources cli h =
+    AllFit-append dos_fields (coff_fields (coff_header count) ++ optional_fields (optional_header z) ++ directory_fields resources cli)
+    (lit< tt, (lit< tt, (lit< tt, tt)))
+    (AllFit-append (coff_fields (coff_header count)) (optional_fields (optional_header z) ++ directory_fields resources cli)
+    (coff_fit count h.section_count)
+    (AllFit-append (optional_fields (optional_header z)) (directory_fields resources cli) (optional_fit count z resources cli h)
+    (directory_fit count z resources cli h)))
+
+-- whether fields cover a range
+abbrev are_covered : ℕ → List HeaderField → ℕ → Bool
+are_covered from [] to = from == to
+are_covered from (f ∷ fs) to = f.place == from && are_covered (from + f.width) fs to
+
+covers-computed : (fs : List HeaderField) (from to : ℕ) → are_covered from fs to ≡ true → Covers from fs to
+covers-computed [] from to h = eqb-true from to h
+covers-computed (f ∷ fs) from to h =
+    let p = and_parts (f.place == from) (are_covered (from + f.width) fs to) h in
+    (eqb-true f.place from p.0, covers-computed fs (from + f.width) to p.1)
+
+-- the headers' fields cover the bytes up to the section table
+pub header_covers : (v : HeaderValues) → Covers 0 (header_fields v) written_table_at
+header_covers v = covers-computed (header_fields v) 0 written_table_at refl
 
 pub length-header_bytes : (v : HeaderValues) → length (header_bytes v) ≡ 328
 unfolding header_bytes
-length-header_bytes v = length-numbers_bytes (header_numbers v)
+length-header_bytes v = omega (arith, length-fields_bytes (header_fields v) 0 328 (header_covers v))
 
--- a number of the row, read at its place in the file
-stands : (v : HeaderValues) (rest : List ℕ) → AreInRange v → (place : ℕ) (n : Number) → number_at place (header_numbers v) ≡ Some n → StandsIn (header_bytes v ++ rest) (at place (width_of n) (value_of n))
+pub header_stands : (count : ℕ) (z : Sizes) (resources cli : Span) (rest : List ℕ) → AreInRange count z resources cli
+    → All (StandsIn (header_bytes (values count z resources cli) ++ rest)) (header_fields (values count z resources cli))
 unfolding header_bytes
-stands v rest h place n e = number_at-stands (header_numbers v) rest place n (header_fits v h) e
+header_stands count z resources cli rest h =
+    let v = values count z resources cli in
+    fields_stand (header_fields v) (header_bytes v ++ rest) rest 0 328 (header_covers v) (header_fit count z resources cli h)
+    (omega arith) refl
 
-pub header_stands : (v : HeaderValues) (rest : List ℕ) → AreInRange v → All (StandsIn (header_bytes v ++ rest)) (header_fields v)
-header_stands v rest h =
-    All-from_recursion (StandsIn (header_bytes v ++ rest)) (header_fields v) (
-      stands v rest h 0 (Two 0x5A4D) refl,
-      (
-        stands v rest h 60 (Four 64) refl,
-        (
-          stands v rest h 64 (Four 0x4550) refl,
-          (
-            stands v rest h 68 (Two 0xAA64) refl,
-            (
-              stands v rest h 70 (Two v.section_count) refl,
-              (
-                stands v rest h 84 (Two 240) refl,
-                (
-                  stands v rest h 86 (Two 0x2022) refl,
-                  (
-                    stands v rest h 88 (Two 0x20B) refl,
-                    (
-                      stands v rest h 92 (Four v.code_size) refl,
-                      (
-                        stands v rest h 96 (Four v.data_size) refl,
-                        (
-                          stands v rest h 100 (Four 0) refl,
-                          (
-                            stands v rest h 104 (Four 0) refl,
-                            (
-                              stands v rest h 108 (Four v.code_rva) refl,
-                              (
-                                stands v rest h 112 (Eight 0x1_8000_0000) refl,
-                                (
-                                  stands v rest h 120 (Four v.section_alignment) refl,
-                                  (
-                                    stands v rest h 124 (Four 512) refl,
-                                    (
-                                      stands v rest h 128 (Two 6) refl,
-                                      (
-                                        stands v rest h 130 (Two 2) refl,
-                                        (
-                                          stands v rest h 136 (Two 6) refl,
-                                          (
-                                            stands v rest h 138 (Two 2) refl,
-                                            (
-                                              stands v rest h 144 (Four v.image_size) refl,
-                                              (
-                                                stands v rest h 148 (Four v.headers_size) refl,
-                                                (
-                                                  stands v rest h 152 (Four 0) refl,
-                                                  (
-                                                    stands v rest h 156 (Two 3) refl,
-                                                    (
-                                                      stands v rest h 158 (Two 0x8160) refl,
-                                                      (
-                                                        stands v rest h 160 (Eight 0x10_0000) refl,
-                                                        (
-                                                          stands v rest h 168 (Eight 0x1000) refl,
-                                                          (
-                                                            stands v rest h 176 (Eight 0x10_0000) refl,
-                                                            (
-                                                              stands v rest h 184 (Eight 0x1000) refl,
-                                                              (
-                                                                stands v rest h 192 (Four 0) refl,
-                                                                (
-                                                                  stands v rest h 196 (Four 16) refl,
-                                                                  (
-                                                                    stands v rest h 200 (Eight 0) refl,
-                                                                    (
-                                                                      stands v rest h 208 (Eight 0) refl,
-                                                                      (
-                                                                        stands v rest h 216 (Four v.resources.start) refl,
-                                                                        (
-                                                                          stands v rest h 220 (Four v.resources.len) refl,
-                                                                          (
-                                                                            stands v rest h 224 (Eight 0) refl,
-                                                                            (
-                                                                              stands v rest h 232 (Eight 0) refl,
-                                                                              (
-                                                                                stands v rest h 240 (Eight 0) refl,
-                                                                                (
-                                                                                  stands v rest h 248 (Eight 0) refl,
-                                                                                  (
-                                                                                    stands v rest h 256 (Eight 0) refl,
-                                                                                    (
-                                                                                      stands v rest h 264 (Eight 0) refl,
-                                                                                      (
-                                                                                        stands v rest h 272 (Eight 0) refl,
-                                                                                        (
-                                                                                          stands v rest h 280 (Eight 0) refl,
-                                                                                          (
-                                                                                            stands v rest h 288 (Eight 0) refl,
-                                                                                            (
-                                                                                              stands v rest h 296 (Eight 0) refl,
-                                                                                              (
-                                                                                                stands v rest h 304 (Eight 0) refl,
-                                                                                                (
-                                                                                                  stands v rest h 312 (Four v.cli_at) refl,
-                                                                                                  (
-                                                                                                    stands v rest h 316 (Four 72) refl,
-                                                                                                    (
-                                                                                                      stands v rest h 320 (Eight 0) refl,
-                                                                                                      tt,
-                                                                                                    ),
-                                                                                                  ),
-                                                                                                ),
-                                                                                              ),
-                                                                                            ),
-                                                                                          ),
-                                                                                        ),
-                                                                                      ),
-                                                                                    ),
-                                                                                  ),
-                                                                                ),
-                                                                              ),
-                                                                            ),
-                                                                          ),
-                                                                        ),
-                                                                      ),
-                                                                    ),
-                                                                  ),
-                                                                ),
-                                                              ),
-                                                            ),
-                                                          ),
-                                                        ),
-                                                      ),
-                                                    ),
-                                                  ),
-                                                ),
-                                              ),
-                                            ),
-                                          ),
-                                        ),
-                                      ),
-                                    ),
-                                  ),
-                                ),
-                              ),
-                            ),
-                          ),
-                        ),
-                      ),
-                    ),
-                  ),
-                ),
-              ),
-            ),
-          ),
-        ),
-      ),
-    )
+-- its first two bytes, read as one number
+pub dos_read : (v : HeaderValues) (rest : List ℕ) → u16_of (header_bytes v ++ rest) 0 ≡ 0x5A4D
+unfolding header_bytes
+dos_read v rest =
+    ap (λ (o : Option ℕ). unwrap_or o 0)
+    (field_stands (at 0 2 0x5A4D) (header_bytes v ++ rest) (drop 2 (header_bytes v ++ rest)) (lit< tt)
+    (omega (arith, length-append (header_bytes v) rest, length-header_bytes v)) refl)

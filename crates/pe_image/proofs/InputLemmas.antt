@@ -12,7 +12,7 @@ use Rattle.pe_image.specs.declared.section.PeSection.{PeSection}
 use Rattle.pe_image.specs.Sections.{section_at}
 use Rattle.pe_image.specs.Headers.{pe_at, section_count, section_table_at, sections_of}
 use Rattle.pe_image.specs.Checks.{pe_checks, raw_range_fits}
-use Rattle.pe_image.specs.Pieces.{IsInFile, raw_of}
+use Rattle.pe_image.specs.Raw.{IsInFile, raw_of}
 use Rattle.pe_image.proofs.TableLemmas.{HeaderFits, HeadersFit}
 use Rattle.pe_image.proofs.RawLemmas.{IsWhole, AllWhole}
 use Rattle.pe_image.proofs.ReadBack.{pass}
@@ -55,7 +55,8 @@ abbrev pub AllInFile : List ℕ → List PeSection → Type 0
 AllInFile bytes [] = Unit {0}
 AllInFile bytes (s ∷ ss) = IsInFile bytes s × AllInFile bytes ss
 
-all_in_file : (n : ℕ) (bytes : List ℕ) (place : ℕ) → first_record (raw_range_fits bytes) place 40 n ≡ None → AllInFile bytes (records (section_at bytes) place 40 n)
+all_in_file : (n : ℕ) (bytes : List ℕ) (place : ℕ) → first_record (raw_range_fits bytes) place 40 n ≡ None
+    → AllInFile bytes (records (section_at bytes) place 40 n)
 all_in_file zero bytes place h = tt
 all_in_file (suc n) bytes place h =
     let r = record_fits (raw_range_fits bytes place) (first_record (raw_range_fits bytes) (place + 40) 40 n) place h in
@@ -71,7 +72,8 @@ header_fits bytes place h long = record {
   flags = u32_below bytes (place + 36) h;
 }
 
-headers_fit : (n : ℕ) (bytes : List ℕ) (place : ℕ) → AreBytes bytes → place + 40 * n ≤ length bytes → HeadersFit (records (section_at bytes) place 40 n)
+headers_fit : (n : ℕ) (bytes : List ℕ) (place : ℕ) → AreBytes bytes → place + 40 * n ≤ length bytes
+    → HeadersFit (records (section_at bytes) place 40 n)
 headers_fit zero bytes place h long = tt
 headers_fit (suc n) bytes place h long = (header_fits bytes place h (omega arith), headers_fit n bytes (place + 40) h (omega arith))
 
@@ -83,11 +85,13 @@ pub record IsInput (bytes : List ℕ) (sections : List PeSection) : Type 0 where
 pub is_input : (bytes : List ℕ) → AreBytes bytes → first_fault pe_checks bytes ≡ None → IsInput bytes (sections_of bytes)
 is_input bytes h none =
     let p = pass pe_checks bytes none in
-    let table = leb-true (section_table_at bytes + 40 * section_count bytes) (length bytes) (holds_true (nat_le (section_table_at bytes + 40 * section_count bytes) (length bytes)) (pe_at bytes + 6) p.1.1.1.1.1.1.1.1.0) in
+    let table = leb-true (section_table_at bytes + 40 * section_count bytes) (length bytes)
+    (holds_true (nat_le (section_table_at bytes + 40 * section_count bytes) (length bytes)) (pe_at bytes + 6) p.1.1.1.1.1.1.1.1.0) in
     record {
       signature = leb-true (pe_at bytes + 24) (length bytes) (holds_true (nat_le (pe_at bytes + 24) (length bytes)) 60 p.1.1.0);
       headers = headers_fit (section_count bytes) bytes (section_table_at bytes) h table;
-      raw = all_in_file (section_count bytes) bytes (section_table_at bytes) (none_mapped (first_record (raw_range_fits bytes) (section_table_at bytes) 40 (section_count bytes)) p.1.1.1.1.1.1.1.1.1.0);
+      raw = all_in_file (section_count bytes) bytes (section_table_at bytes)
+          (none_mapped (first_record (raw_range_fits bytes) (section_table_at bytes) 40 (section_count bytes)) p.1.1.1.1.1.1.1.1.1.0);
     }
 
 -- the raw bytes of a section in the file are as many as its header says

@@ -1,4 +1,5 @@
 pub mod NumbersInARow
+mod Stages
 mod PlacesLemmas
 mod HeaderLemmas
 mod TableLemmas

@@ -1,121 +1,58 @@
--- Numbers in a row: each is read at its place.
-use Rattle.std.proofs.Common.{◌≡◌, ℕ, zero, suc, ◌+◌, ◌-◌, ◌^◌, ◌<◌, ◌≤◌, ltb, cond, Bool, List, [], ◌∷◌, ◌++◌, length, drop, Option, Some, None, refl, sym, ap, subst, ◌∙◌, arith, append_assoc, length-append, length-drop, inl, inr}
-use Rattle.std.specs.Prelude.{if◌then◌else◌, unwrap_or}
-use Rattle.std.proofs.lemmas.Bool.{cases_lt, lt-ltb, le-ltb, le-leb, lt-leb}
-use Rattle.std.proofs.lemmas.List.{drop-drop}
-use Rattle.std.proofs.Math.Seq.{drop-append_seam}
+-- Fields one after the other: each is read at its place.
+use Rattle.std.proofs.Common.{◌≡◌, ℕ, ◌+◌, ◌^◌, ◌<◌, ◌≤◌, List, [], ◌∷◌, ◌++◌, length, drop, Some, refl, sym, ap, ◌∙◌, arith, append_assoc, length-append, length-drop, inl, inr}
+use Rattle.std.specs.Prelude.{All}
+use Rattle.std.specs.List.{flat_map}
+use Rattle.std.proofs.lemmas.Bool.{cases_lt, le-leb, lt-leb}
+use Rattle.std.proofs.lemmas.List.{drop-drop, drop_at}
+use Rattle.std.proofs.lemmas.List.Elements.{All-nil, All-cons}
 use Rattle.byteorder.specs.Endian.{little_bytes, little_number}
-use Rattle.byteorder.specs.Numbers.{little_number-reads_back}
-use Rattle.rtr_bytes.specs.Field.{field_at, u32_of}
-use Rattle.pe_image.specs.declared.numbers.Number.{Number}
-use Rattle.pe_image.specs.declared.numbers.Number.TheVariants.{One, Two, Four, Eight}
-use Rattle.pe_image.specs.Pieces.{number_bytes, numbers_bytes}
+use Rattle.byteorder.specs.Numbers.{little_number-reads_back, length-bytes_low_first}
+use Rattle.rtr_bytes.specs.Field.{field_at}
+use Rattle.pe_image.specs.Written.{HeaderField, StandsIn, Covers}
+use Rattle.pe_image.specs.Pieces.{field_bytes, fields_bytes}
 
-abbrev pub width_of : Number → ℕ
-width_of (One x) = 1
-width_of (Two x) = 2
-width_of (Four x) = 4
-width_of (Eight x) = 8
-
-abbrev pub value_of : Number → ℕ
-value_of (One x) = x
-value_of (Two x) = x
-value_of (Four x) = x
-value_of (Eight x) = x
-
--- it fits its width
-abbrev pub Fits : Number → Type 0
-Fits n = value_of n < 256 ^ width_of n
-
-abbrev pub AllFit : List Number → Type 0
+-- each fits its width
+abbrev pub AllFit : List HeaderField → Type 0
 AllFit [] = Unit {0}
-AllFit (n ∷ ns) = Fits n × AllFit ns
+AllFit (f ∷ fs) = (f.number < 256 ^ f.width) × AllFit fs
 
-pub AllFit-append : (a b : List Number) → AllFit a → AllFit b → AllFit (a ++ b)
+pub AllFit-append : (a b : List HeaderField) → AllFit a → AllFit b → AllFit (a ++ b)
 AllFit-append [] b h k = k
-AllFit-append (n ∷ ns) b (h, hs) k = (h, AllFit-append ns b hs k)
+AllFit-append (f ∷ fs) b (h, hs) k = (h, AllFit-append fs b hs k)
 
-abbrev pub width : List Number → ℕ
-width [] = 0
-width (n ∷ ns) = width_of n + width ns
+pub length-field_bytes : (f : HeaderField) → length (field_bytes f) ≡ f.width
+length-field_bytes f = length-bytes_low_first 0 f.width f.number
 
--- the number that begins at a place in a row
-abbrev pub number_at : ℕ → List Number → Option Number
-number_at place [] = None
-number_at zero (n ∷ ns) = Some n
-number_at (suc p) (n ∷ ns) = if ltb (suc p) (width_of n) then None else number_at (suc p - width_of n) ns
+-- fields that cover a range have its length
+pub length-fields_bytes : (fs : List HeaderField) (from to : ℕ) → Covers from fs to → from + length (fields_bytes fs) ≡ to
+length-fields_bytes [] from to h = omega (arith, h)
+length-fields_bytes (f ∷ fs) from to (here, more) =
+    omega (arith, length-append (field_bytes f) (fields_bytes fs), length-field_bytes f, length-fields_bytes fs (from + f.width) to more)
 
-number_bytes-is : (n : Number) → number_bytes n ≡ little_bytes (width_of n) (value_of n)
-number_bytes-is (One x) = refl
-number_bytes-is (Two x) = refl
-number_bytes-is (Four x) = refl
-number_bytes-is (Eight x) = refl
-
-pub length-number_bytes : (n : Number) → length (number_bytes n) ≡ width_of n
-length-number_bytes (One x) = refl
-length-number_bytes (Two x) = refl
-length-number_bytes (Four x) = refl
-length-number_bytes (Eight x) = refl
-
-pub length-numbers_bytes : (ns : List Number) → length (numbers_bytes ns) ≡ width ns
-length-numbers_bytes [] = refl
-length-numbers_bytes (n ∷ ns) =
-    omega (arith, length-append (number_bytes n) (numbers_bytes ns), length-number_bytes n, length-numbers_bytes ns)
-
-pub field_at-is : (k : ℕ) (bytes : List ℕ) (place : ℕ) → place + k ≤ length bytes → field_at k bytes place ≡ Some (little_number k (drop place bytes))
+pub field_at-is : (k : ℕ) (bytes : List ℕ) (place : ℕ) → place + k ≤ length bytes
+    → field_at k bytes place ≡ Some (little_number k (drop place bytes))
 field_at-is k bytes place h = rw (le-leb (place + k) (length bytes) h) refl
 
--- a field, counted from a place on
-pub field_at-from : (k : ℕ) (bytes : List ℕ) (start i : ℕ) → start ≤ length bytes → field_at k bytes (start + i) ≡ field_at k (drop start bytes) i
-field_at-from k bytes start i h =
-    let long = length-drop start bytes in
-    rw (drop-drop i start bytes)
-    (elim (cases_lt (length bytes) (start + i + k)) [
-      | inl lt ↦ rw (lt-leb (start + i + k) (length bytes) lt) (let l : length (drop start bytes) < i + k = omega arith in rw (lt-leb (i + k) (length (drop start bytes)) l) refl)
-      | inr le ↦ rw (le-leb (start + i + k) (length bytes) le) (let l : i + k ≤ length (drop start bytes) = omega arith in rw (le-leb (i + k) (length (drop start bytes)) l) refl)
-    ])
+-- a field whose bytes are at a place is read there
+pub field_stands : (f : HeaderField) (bytes rest : List ℕ) → f.number < 256 ^ f.width → f.place + f.width ≤ length bytes
+    → drop f.place bytes ≡ field_bytes f ++ rest → StandsIn bytes f
+field_stands f bytes rest fit long whole =
+    field_at-is f.width bytes f.place long
+    ∙ ap (λ (t : List ℕ). Some (little_number f.width t)) whole
+    ∙ ap (λ (t : ℕ). Some t) (little_number-reads_back f.width f.number rest fit)
 
-first_stands : (n : Number) (rest : List ℕ) → Fits n → field_at (width_of n) (number_bytes n ++ rest) 0 ≡ Some (value_of n)
-first_stands n rest h =
-    let l : 0 + width_of n ≤ length (number_bytes n ++ rest) = omega (arith, length-append (number_bytes n) rest, length-number_bytes n) in
-    field_at-is (width_of n) (number_bytes n ++ rest) 0 l
-    ∙ ap (λ (t : List ℕ). Some (little_number (width_of n) (t ++ rest))) (number_bytes-is n)
-    ∙ ap (λ (t : ℕ). Some t) (little_number-reads_back (width_of n) (value_of n) rest h)
-
-pub number_at-stands : (ns : List Number) (rest : List ℕ) (place : ℕ) (n : Number) → AllFit ns → number_at place ns ≡ Some n → field_at (width_of n) (numbers_bytes ns ++ rest) place ≡ Some (value_of n)
-number_at-stands [] rest place n fit e = absurd (let x : ⊥ = cc in x)
-number_at-stands (m ∷ ns) rest zero n (fit, fits) e =
-    let same : m ≡ n = cc in
-    let P : Number → Type 0 = λ t. field_at (width_of t) (numbers_bytes (m ∷ ns) ++ rest) 0 ≡ Some (value_of t) in
-    subst P same (ap (λ (t : List ℕ). field_at (width_of m) t 0) (append_assoc (number_bytes m) (numbers_bytes ns) rest) ∙ first_stands m (numbers_bytes ns ++ rest) fit)
-number_at-stands (m ∷ ns) rest (suc p) n (fit, fits) e =
-    elim (cases_lt (suc p) (width_of m)) [
-      | inl lt ↦ absurd (let x : None ≡ Some n = sym (ap (λ (b : Bool). cond b None (number_at (suc p - width_of m) ns)) (lt-ltb (suc p) (width_of m) lt)) ∙ e in let y : ⊥ = cc in y)
-      | inr le ↦
-          let found : number_at (suc p - width_of m) ns ≡ Some n = sym (ap (λ (b : Bool). cond b None (number_at (suc p - width_of m) ns)) (le-ltb (suc p) (width_of m) le)) ∙ e in
-          let whole = numbers_bytes (m ∷ ns) ++ rest in
-          let split : drop (width_of m) whole ≡ numbers_bytes ns ++ rest =
-          ap (λ (t : List ℕ). drop (width_of m) t) (append_assoc (number_bytes m) (numbers_bytes ns) rest)
-          ∙ ap (λ (t : ℕ). drop t (number_bytes m ++ (numbers_bytes ns ++ rest))) (sym (length-number_bytes m))
-          ∙ drop-append_seam (number_bytes m) (numbers_bytes ns ++ rest) in
-          let long : width_of m ≤ length whole = omega (arith, ap length (append_assoc (number_bytes m) (numbers_bytes ns) rest), length-append (number_bytes m) (numbers_bytes ns ++ rest), length-number_bytes m) in
-          let at : suc p ≡ width_of m + (suc p - width_of m) = omega arith in
-          ap (λ (t : ℕ). field_at (width_of n) whole t) at
-          ∙ field_at-from (width_of n) whole (width_of m) (suc p - width_of m) long
-          ∙ ap (λ (t : List ℕ). field_at (width_of n) t (suc p - width_of m)) split
-          ∙ number_at-stands ns rest (suc p - width_of m) n fits found
-    ]
-
--- the same where the row stands at a place of some bytes
-pub stands_from : (bytes : List ℕ) (start : ℕ) (ns : List Number) (rest : List ℕ) (i place : ℕ) (n : Number)
-    → start ≤ length bytes → drop start bytes ≡ numbers_bytes ns ++ rest → AllFit ns → place ≡ start + i → number_at i ns ≡ Some n
-    → field_at (width_of n) bytes place ≡ Some (value_of n)
-stands_from bytes start ns rest i place n h whole fits is e =
-    ap (λ (t : ℕ). field_at (width_of n) bytes t) is ∙ field_at-from (width_of n) bytes start i h
-    ∙ ap (λ (t : List ℕ). field_at (width_of n) t i) whole ∙ number_at-stands ns rest i n fits e
-
-pub u32_from : (bytes : List ℕ) (start : ℕ) (ns : List Number) (rest : List ℕ) (i place x : ℕ)
-    → start ≤ length bytes → drop start bytes ≡ numbers_bytes ns ++ rest → AllFit ns → place ≡ start + i → number_at i ns ≡ Some (Four x)
-    → u32_of bytes place ≡ x
-u32_from bytes start ns rest i place x h whole fits is e =
-    ap (λ (t : Option ℕ). unwrap_or t 0) (stands_from bytes start ns rest i place (Four x) h whole fits is e)
+-- and so is each of a row of them
+pub fields_stand : (fs : List HeaderField) (bytes rest : List ℕ) (from to : ℕ) → Covers from fs to → AllFit fs → from ≤ length bytes
+    → drop from bytes ≡ fields_bytes fs ++ rest → All (StandsIn bytes) fs
+fields_stand [] bytes rest from to h fit long whole = All-nil (StandsIn bytes)
+fields_stand (f ∷ fs) bytes rest from to (here, more) (fit, fits) long whole =
+    let tail = fields_bytes fs ++ rest in
+    let split : drop from bytes ≡ field_bytes f ++ tail = whole ∙ append_assoc (field_bytes f) (fields_bytes fs) rest in
+    let size = length-field_bytes f in
+    let room : from + f.width ≤ length bytes =
+    omega (arith, long, length-drop from bytes, ap (λ (t : List ℕ). length t) split, length-append (field_bytes f) tail, size) in
+    let first : StandsIn bytes f =
+    field_stands f bytes tail fit (omega (arith, here, room)) (ap (λ (t : ℕ). drop t bytes) here ∙ split) in
+    let next : drop (from + f.width) bytes ≡ tail =
+    sym (drop-drop f.width from bytes) ∙ ap (λ (t : List ℕ). drop f.width t) split ∙ drop_at (field_bytes f) tail f.width size in
+    All-cons (StandsIn bytes) f fs first (fields_stand fs bytes rest (from + f.width) to more fits room next)

@@ -22,12 +22,12 @@ aligned-multiple n h = omega arith
 pub aligned-aligned : (n : ℕ) → aligned 512 (aligned 512 n) ≡ aligned 512 n
 aligned-aligned n = aligned-multiple (aligned 512 n) (aligned-512 n).multiple
 
-pub record IsBehind (place up : ℕ) : Type 0 where
+pub record IsNext (place up : ℕ) : Type 0 where
   pub low : place ≤ up
   pub high : up < place + 65536
   pub multiple : up % 65536 ≡ 0
 
-pub aligned-65536 : (n : ℕ) → IsBehind n (aligned 65536 n)
+pub aligned-65536 : (n : ℕ) → IsNext n (aligned 65536 n)
 unfolding aligned
 aligned-65536 n = record { low = omega arith; high = omega arith; multiple = omega arith }
 
@@ -48,7 +48,8 @@ end_from-append (s ∷ a) b at = end_from-append a b (at + aligned 512 s.raw_siz
 
 pub placed_from-append : (a b : List PeSection) (at : ℕ) → placed_from at (a ++ b) ≡ placed_from at a ++ placed_from (end_from at a) b
 placed_from-append [] b at = refl
-placed_from-append (s ∷ a) b at = ap (λ (t : List PeSection). record s { raw_at = at } ∷ t) (placed_from-append a b (at + aligned 512 s.raw_size))
+placed_from-append (s ∷ a) b at =
+    ap (λ (t : List PeSection). record s { raw_at = at } ∷ t) (placed_from-append a b (at + aligned 512 s.raw_size))
 
 pub length-placed_from : (ss : List PeSection) (at : ℕ) → length (placed_from at ss) ≡ length ss
 length-placed_from [] at = refl
@@ -61,14 +62,16 @@ end_from-le (s ∷ ss) at =
     omega (arith, end_from-le ss (at + aligned 512 s.raw_size), sum_by-cons (λ (t : PeSection). t.raw_size) s ss)
 
 -- placed sections are laid as they must
-pub laid : (ss : List PeSection) (from at file_end : ℕ) → from ≤ at → at % 512 ≡ 0 → end_from at ss ≤ file_end → AreLaid from (placed_from at ss) file_end
+pub laid : (ss : List PeSection) (from at file_end : ℕ) → from ≤ at → at % 512 ≡ 0 → end_from at ss ≤ file_end
+    → AreLaid from (placed_from at ss) file_end
 laid [] from at file_end h m e = omega arith
 laid (s ∷ ss) from at file_end h m e =
     let a = aligned-512 s.raw_size in
     (h, m, laid ss (at + s.raw_size) (at + aligned 512 s.raw_size) file_end (omega arith) (omega arith) e)
 
--- the place behind the next section's raw bytes isn't behind all of them
-pub next_within : (ss : List PeSection) (at i x size last : ℕ) (d : PeSection) → i < length ss → size ≡ (get_or ss i d).raw_size → x ≡ aligned 512 size → end_from at (drop i ss) ≡ last → at + x ≤ last
+-- the place after the next section's raw bytes isn't after all of them
+pub next_within : (ss : List PeSection) (at i x size last : ℕ) (d : PeSection) → i < length ss → size ≡ (get_or ss i d).raw_size
+    → x ≡ aligned 512 size → end_from at (drop i ss) ≡ last → at + x ≤ last
 next_within ss at i x size last d h e f g =
     let step = at_drop_more (end_from at) ss i d h in
     let grows = end_from-grows (drop (i + 1) ss) (at + aligned 512 (get_or ss i d).raw_size) in

@@ -28,8 +28,11 @@ above_from n low (x ∷ xs) h = (h 0 x (omega arith), above_from n low xs (λ k 
 
 rises_from : {X : Type 0} (n : X → ℕ) (xs : List X) → IsNonDecreasingBy n xs → Rises n xs
 rises_from n [] h = tt
-rises_from n (x ∷ xs) h =
-    (above_from n (n x) xs (λ k d below. h 0 (suc k) d (omega arith) (omega arith)), rises_from n xs (λ i j d le below. h (suc i) (suc j) d (omega arith) (omega arith)))
+rises_from n (x ∷ xs) h = (
+  above_from n (n x) xs (λ k d below. h 0 (suc k) d (omega arith) (omega arith)),
+  rises_from n xs
+      (λ i j d le below. h (suc i) (suc j) d (omega arith) (omega arith)),
+)
 
 above_at : {X : Type 0} (n : X → ℕ) (low : ℕ) (xs : List X) → Above n low xs → (k : ℕ) (d : X) → k < length xs → low ≤ n (get_or xs k d)
 above_at n low [] h k d below = absurd (let x : ⊥ = omega arith in x)
@@ -104,13 +107,14 @@ end_max end a b =
     elim (cases_lt a end) [
       | inl short ↦ elim (cases_lt b end) [
         | inl low ↦ lt-leb end (max a b) (omega arith) ∙ sym (ap (λ (t : Bool). t || nat_le end b) (lt-leb end a short) ∙ lt-leb end b low)
-        | inr high ↦ le-leb end (max a b) (omega arith) ∙ sym (ap (λ (t : Bool). t || nat_le end b) (lt-leb end a short) ∙ le-leb end b high)
+        | inr high ↦ le-leb end (max a b) (omega arith)
+            ∙ sym (ap (λ (t : Bool). t || nat_le end b) (lt-leb end a short) ∙ le-leb end b high)
       ]
       | inr long ↦ le-leb end (max a b) (omega arith) ∙ sym (ap (λ (t : Bool). t || nat_le end b) (le-leb end a long))
     ]
 
 -- The first begins, those before it reach the end, it reaches the end, a later one begins, a later one spans. The later ones
--- begin where the first does, or behind it.
+-- begin where the first does, or after it.
 one_more : (first before reaches later spanned : Bool) → (later ≡ true → first ≡ true)
     → ((first && (before || reaches)) || (((before || reaches) && later) || spanned)) ≡ ((before && (first || later)) || ((first && reaches) || spanned))
 one_more true true reaches later spanned h = refl
@@ -139,7 +143,8 @@ steps_hold (s ∷ ss) reach rva end (h, hs) =
     ∙ one_more first (nat_le end reach) (nat_le end (raw_end s)) later spanned (first_begins ss rva s.rva h)
 
 -- a step holds a range exactly where a section spans it
-stairs_hold : (ss : List PeSection) (rva end : ℕ) → Rises section_rva ss → list_any (holds rva end) (steps_from 0 ss) ≡ list_any (spans rva end) ss
+stairs_hold : (ss : List PeSection) (rva end : ℕ) → Rises section_rva ss
+    → list_any (holds rva end) (steps_from 0 ss) ≡ list_any (spans rva end) ss
 stairs_hold [] rva end h = refl
 stairs_hold (s ∷ ss) rva end (h, hs) =
     let up = max 0 (raw_end s) in
@@ -151,30 +156,39 @@ stairs_hold (s ∷ ss) rva end (h, hs) =
     ∙ ap (λ (t : ℕ). (first && nat_le end t) || ((nat_le end t && later) || spanned)) own
     ∙ one_more first false (nat_le end (raw_end s)) later spanned (first_begins ss rva s.rva h)
 
-are_stairs : (run sorted : List PeSection) → IsPermutation run sorted → IsNonDecreasingBy (λ (s : PeSection). s.rva) sorted → IsStairs (steps_from 0 sorted) run
+are_stairs : (run sorted : List PeSection) → IsPermutation run sorted → IsNonDecreasingBy (λ (s : PeSection). s.rva) sorted
+    → IsStairs (steps_from 0 sorted) run
 are_stairs run sorted p h =
     let up = rises_from section_rva sorted h in
     record {
-      rising = record { rva = rises_at step_rva (steps_from 0 sorted) (rises_rva sorted 0 up); reach = rises_at step_reach (steps_from 0 sorted) (rises_reach sorted 0) };
+      rising = record {
+        rva = rises_at step_rva (steps_from 0 sorted) (rises_rva sorted 0 up);
+        reach = rises_at step_reach
+            (steps_from 0 sorted) (rises_reach sorted 0);
+      };
       count = length-steps_from sorted 0 ∙ length_permutation run sorted p;
       same = λ rva len. stairs_hold sorted rva (rva + len) up ∙ sym (list_any-IsPermutation (has_range rva len) run sorted p);
     }
 
 -- once there is a step for each section
-pub all_steps : (run from items sorted : List PeSection) (stairs : List Step) (reach i : ℕ) → from ≡ run → sorted ≡ items → IsPermutation from items → IsNonDecreasingBy (λ (s : PeSection). s.rva) items
+pub all_steps : (run from items sorted : List PeSection) (stairs : List Step) (reach i : ℕ) → from ≡ run → sorted ≡ items
+    → IsPermutation from items → IsNonDecreasingBy (λ (s : PeSection). s.rva) items
     → length sorted ≤ i → stairs ++ steps_from reach (drop i sorted) ≡ steps_from 0 sorted → IsStairs stairs run
 all_steps run from items sorted stairs reach i start end p h done e =
-    let whole : stairs ≡ steps_from 0 sorted = sym (append-nil stairs) ∙ ap (λ (t : List PeSection). stairs ++ steps_from reach t) (sym (drop_all i sorted done)) ∙ e in
+    let whole : stairs ≡ steps_from 0 sorted = sym (append-nil stairs)
+    ∙ ap (λ (t : List PeSection). stairs ++ steps_from reach t) (sym (drop_all i sorted done)) ∙ e in
     let P : List Step → Type 0 = λ t. IsStairs t run in
     let Q : List PeSection → Type 0 = λ t. IsStairs (steps_from 0 items) t in
     subst P (sym (whole ∙ ap (λ (t : List PeSection). steps_from 0 t) end)) (subst Q start (are_stairs from items p h))
 
--- ---- the one step that tells
+-- ---- the one step that decides
 
 -- no step begins at or before the RVA
-pub none_begins : (stairs : List Step) (rva end count : ℕ) → count ≤ 0 → AllWithin (λ (s : Step). leb s.rva rva ≡ false) stairs count (length stairs) → list_any (holds rva end) stairs ≡ false
+pub none_begins : (stairs : List Step) (rva end count : ℕ) → count ≤ 0
+    → AllWithin (λ (s : Step). leb s.rva rva ≡ false) stairs count (length stairs) → list_any (holds rva end) stairs ≡ false
 none_begins stairs rva end count none above =
-    list_any_none (holds rva end) stairs (λ k d below. ap (λ (t : Bool). t && nat_le end (step_reach (get_or stairs k d))) (above k d (omega arith) below))
+    list_any_none (holds rva end) stairs (λ k d below. ap (λ (t : Bool). t && nat_le end (step_reach (get_or stairs k d)))
+    (above k d (omega arith) below))
 
 lower_too : (end a b : ℕ) → a ≤ b → leb end b ≡ false → leb end a ≡ false
 lower_too end a b h e =
@@ -183,12 +197,15 @@ lower_too end a b h e =
       | inr long ↦ absurd (let t : leb end b ≡ true = le-leb end b (omega arith) in let x : ⊥ = cc in x)
     ]
 
-step_tells : (stairs : List Step) (rva end count : ℕ) (d : Step) (b : Bool) → IsRising stairs → 0 < count → count ≤ length stairs
-    → AllWithin (λ (s : Step). leb s.rva rva ≡ true) stairs 0 count → AllWithin (λ (s : Step). leb s.rva rva ≡ false) stairs count (length stairs)
+step_decides : (stairs : List Step) (rva end count : ℕ) (d : Step) (b : Bool) → IsRising stairs → 0 < count → count ≤ length stairs
+    → AllWithin (λ (s : Step). leb s.rva rva ≡ true) stairs 0 count
+    → AllWithin (λ (s : Step). leb s.rva rva ≡ false) stairs count (length stairs)
     → leb end (get_or stairs (count - 1) d).reach ≡ b → b ≡ list_any (holds rva end) stairs
-step_tells stairs rva end count d true up some inside below above e =
-    sym (list_any_at (holds rva end) stairs (count - 1) d (omega arith) (and_from (leb (get_or stairs (count - 1) d).rva rva) (leb end (get_or stairs (count - 1) d).reach) (below (count - 1) d (omega arith) (omega arith)) e))
-step_tells stairs rva end count d false up some inside below above e =
+step_decides stairs rva end count d true up some inside below above e =
+    sym (list_any_at (holds rva end) stairs (count - 1) d (omega arith)
+    (and_from (leb (get_or stairs (count - 1) d).rva rva) (leb end (get_or stairs (count - 1) d).reach)
+    (below (count - 1) d (omega arith) (omega arith)) e))
+step_decides stairs rva end count d false up some inside below above e =
     sym (list_any_none (holds rva end) stairs (λ k d2 within. elim (cases_lt k count) [
       | inl first ↦
           let last = get_or stairs (count - 1) d2 in
@@ -200,9 +217,10 @@ step_tells stairs rva end count d false up some inside below above e =
       | inr later ↦ ap (λ (t : Bool). t && leb end (get_or stairs k d2).reach) (above k d2 later within)
     ]))
 
--- the last step at or before the RVA tells it
-pub last_tells : (stairs : List Step) (rva end count : ℕ) (d : Step) → IsRising stairs → 0 < count → count ≤ length stairs
-    → AllWithin (λ (s : Step). leb s.rva rva ≡ true) stairs 0 count → AllWithin (λ (s : Step). leb s.rva rva ≡ false) stairs count (length stairs)
+-- the last step at or before the RVA decides it
+pub last_decides : (stairs : List Step) (rva end count : ℕ) (d : Step) → IsRising stairs → 0 < count → count ≤ length stairs
+    → AllWithin (λ (s : Step). leb s.rva rva ≡ true) stairs 0 count
+    → AllWithin (λ (s : Step). leb s.rva rva ≡ false) stairs count (length stairs)
     → leb end (get_or stairs (count - 1) d).reach ≡ list_any (holds rva end) stairs
-last_tells stairs rva end count d up some inside below above =
-    step_tells stairs rva end count d (leb end (get_or stairs (count - 1) d).reach) up some inside below above refl
+last_decides stairs rva end count d up some inside below above =
+    step_decides stairs rva end count d (leb end (get_or stairs (count - 1) d).reach) up some inside below above refl

@@ -36,15 +36,22 @@ section_checks =
     check 11 (λ bytes. option_map (λ at. at + 20) (first_record (raw_range_fits bytes) (section_table_at bytes) 40 (section_count bytes)))
     ∷ []
 
--- the CLI header
-abbrev pub cli_checks : List Check
-cli_checks =
+-- the data directory of the CLI header
+abbrev pub directory_checks : List Check
+directory_checks =
     check 12 (λ bytes. let at = cli_directory_at bytes in
     holds_or (nat_le 72 (u32_of bytes (at + 4)) && is_some (place_of bytes (u32_of bytes at) 72)) at)
-    -- cb, the header's own size
-    ∷ check 13 (λ bytes. holds_or (nat_le 72 (u32_of bytes (cli_at bytes))) (cli_at bytes))
+    ∷ []
+
+-- the CLI header's own: cb, its size, and the range of the metadata
+abbrev pub cli_header_checks : List Check
+cli_header_checks =
+    check 13 (λ bytes. holds_or (nat_le 72 (u32_of bytes (cli_at bytes))) (cli_at bytes))
     ∷ check 14 (λ bytes. holds_or (is_some (metadata_place bytes)) (cli_at bytes + 8))
     ∷ []
+
+abbrev pub cli_checks : List Check
+cli_checks = directory_checks ++ cli_header_checks
 
 -- all of them, in their order
 abbrev pub pe_checks : List Check

@@ -1,4 +1,4 @@
--- What tells, for runs of sections, whether any section of a run holds a range of RVAs.
+-- What decides, for runs of sections, whether any section of a run holds a range of RVAs.
 use Rattle.std.specs.Prelude.{◌≡◌, ℕ, ◌+◌, ◌*◌, ◌<◌, ◌≤◌, List, [], ◌∷◌, length, take, drop, Bool, ◌&&◌, nat_le}
 use Rattle.std.specs.List.{list_any}
 use Rattle.std.specs.List.Sorted.{IsNonDecreasingBy}
@@ -23,8 +23,8 @@ pub record IsStairs (stairs : List Step) (run : List PeSection) : Type 0 where
   pub count : length stairs ≡ length run
   pub same : (rva len : ℕ) → list_any (holds rva (rva + len)) stairs ≡ list_any (has_range rva len) run
 
--- The table in runs of a width: the stairs of every second run from the first on stand one behind the other, of each run that has
--- more sections behind it.
+-- The table in runs of a width: the stairs of every second run from the first on are one after the other, of each run that has
+-- more sections after it.
 abbrev pub IsLevel : ℕ → List Step → List PeSection → Type 0
 IsLevel width steps sections =
     (j : ℕ) → width * j + width * j + width < length sections

@@ -1,4 +1,4 @@
--- What stands in a PE file with a CLI header, each at its place (PE/COFF 2.5 to 3.4, ECMA-335 II.25.3.3).
+-- What is in a PE file with a CLI header, each at its place (PE/COFF 2.5 to 3.4, ECMA-335 II.25.3.3).
 use Rattle.std.specs.Prelude.{ℕ, ◌+◌, ◌-◌, ◌==◌, ◌&&◌, List, Bool, Option, Some, None, if◌then◌else◌, unwrap_or}
 use Rattle.rtr_bytes.specs.declared.fault.Span.{Span}
 use Rattle.rtr_bytes.specs.Field.{u16_of, u32_of}
@@ -6,7 +6,7 @@ use Rattle.rtr_bytes.specs.Checks.{records}
 use Rattle.pe_image.specs.declared.section.PeSection.{PeSection}
 use Rattle.pe_image.specs.Sections.{section_at, slice_of_rva}
 
--- the place of the PE signature, which the MS-DOS header tells at 60
+-- the place of the PE signature, which the MS-DOS header has at 60
 abbrev pub pe_at : List ℕ → ℕ
 pe_at bytes = u32_of bytes 60
 
@@ -30,7 +30,7 @@ magic_of bytes = u16_of bytes (optional_at bytes)
 abbrev pub is_wide : List ℕ → Bool
 is_wide bytes = magic_of bytes == 0x20B
 
--- how far into the optional header the data directories stand: behind their count, NumberOfRvaAndSizes
+-- how far into the optional header the data directories are: after their count, NumberOfRvaAndSizes
 abbrev pub directories_offset : List ℕ → ℕ
 directories_offset bytes = if is_wide bytes then 112 else 96
 
@@ -41,14 +41,14 @@ directory_count_at bytes = optional_at bytes + directories_offset bytes - 4
 abbrev pub cli_directory_at : List ℕ → ℕ
 cli_directory_at bytes = optional_at bytes + directories_offset bytes + 112
 
--- the section table stands behind the optional header
+-- the section table is after the optional header
 abbrev pub section_table_at : List ℕ → ℕ
 section_table_at bytes = optional_at bytes + optional_size bytes
 
 abbrev pub sections_of : List ℕ → List PeSection
 sections_of bytes = records (section_at bytes) (section_table_at bytes) 40 (section_count bytes)
 
--- where a range of RVAs stands in the file
+-- where a range of RVAs is in the file
 abbrev pub place_of : List ℕ → ℕ → ℕ → Option ℕ
 place_of bytes rva len = slice_of_rva (sections_of bytes) rva len
 
@@ -70,7 +70,7 @@ native_span rva size = if rva == 0 && size == 0 then None else Some (record { st
 abbrev pub native_of : List ℕ → Option Span
 native_of bytes = native_span (u32_of bytes (cli_at bytes + 64)) (u32_of bytes (cli_at bytes + 68))
 
--- what a reader of the headers tells
+-- what a reader of the headers exposes
 pub record Headers : Type 0 where
   pub machine : ℕ
   pub wide : Bool

@@ -1,8 +1,12 @@
 pub mod Sections
 pub mod Headers
+pub mod Layout
+pub mod Cli
 pub mod Checks
 pub mod Reach
 pub mod Finder
 pub mod Places
+pub mod Raw
 pub mod Written
 pub mod Pieces
+pub mod Parts

@@ -1,4 +1,4 @@
--- Where the parts of a written file stand, in the image and in the file.
+-- Where the parts of a written file are, in the image and in the file.
 use Rattle.std.specs.Prelude.{◌≡◌, ℕ, ◌+◌, ◌*◌, ◌%◌, ◌≤◌, List, [], ◌∷◌, ◌++◌, length, codes, max, sum_by}
 use Rattle.std.specs.Int.{next_multiple_of}
 use Rattle.pe_image.specs.declared.section.PeSection.{PeSection}
@@ -7,7 +7,7 @@ use Rattle.pe_image.specs.declared.section.PeSection.{PeSection}
 unfoldable pub aligned : ℕ → ℕ → ℕ
 aligned unit place = next_multiple_of place unit
 
--- the end of a section in the image, behind the larger of its two sizes
+-- the end of a section in the image, after the larger of its two sizes
 abbrev pub section_end : PeSection → ℕ
 section_end s = s.rva + max s.virtual_size s.raw_size
 
@@ -15,17 +15,25 @@ abbrev pub highest_end : List PeSection → ℕ
 highest_end [] = 0
 highest_end (s ∷ sections) = max (section_end s) (highest_end sections)
 
--- the RVA of `.r2rdat`, behind the input's sections, and of `.r2rcod`, behind it
+-- the RVA of `.r2rdat`, after the input's sections, and of `.r2rcod`, after it
 abbrev pub dat_rva : List PeSection → ℕ
 dat_rva sections = aligned 65536 (highest_end sections)
 
 abbrev pub cod_rva : List PeSection → ℕ → ℕ
 cod_rva sections dat_len = aligned 65536 (dat_rva sections + dat_len)
 
--- where the headers of so many sections end: the MS-DOS header's 64 bytes, the signature's 4, the COFF header's 20, the
--- optional header's 240, and 40 for each section
+-- where the section table is: after the MS-DOS header's 64 bytes, the signature's 4, the COFF header's 20 and the optional
+-- header's 240
+abbrev pub written_table_at : ℕ
+written_table_at = 328
+
+-- where the headers of so many sections end, each of 40 bytes
 abbrev pub headers_end : ℕ → ℕ
-headers_end count = 328 + 40 * count
+headers_end count = written_table_at + 40 * count
+
+-- room for the two new sections to begin at multiples of 65,536
+abbrev pub alignment_room : ℕ
+alignment_room = 131072
 
 -- the two new section headers, before their raw bytes have a place: initialized data that is read and written,
 -- and code that is read and executed
@@ -52,7 +60,7 @@ cod_section sections dat_len cod_len = record {
 abbrev pub all_sections : List PeSection → ℕ → ℕ → List PeSection
 all_sections sections dat_len cod_len = sections ++ dat_section sections dat_len ∷ cod_section sections dat_len cod_len ∷ []
 
--- sections whose raw bytes stand one behind the other from a place on, each padded to a multiple of 512
+-- sections whose raw bytes are one after the other from a place on, each padded to a multiple of 512
 abbrev pub placed_from : ℕ → List PeSection → List PeSection
 placed_from at [] = []
 placed_from at (s ∷ sections) = record s { raw_at = at } ∷ placed_from (at + aligned 512 s.raw_size) sections
@@ -62,7 +70,7 @@ abbrev pub end_from : ℕ → List PeSection → ℕ
 end_from at [] = at
 end_from at (s ∷ sections) = end_from (at + aligned 512 s.raw_size) sections
 
--- the raw bytes begin behind the headers
+-- the raw bytes begin after the headers
 abbrev pub raw_start : List PeSection → ℕ
 raw_start sections = aligned 512 (headers_end (length sections + 2))
 
@@ -74,9 +82,10 @@ written_length sections dat_len cod_len = end_from (raw_start sections) (all_sec
 
 -- no file is longer: the headers, all raw bytes, and 512 for each section and once more
 abbrev pub length_bound : List PeSection → ℕ → ℕ → ℕ
-length_bound sections dat_len cod_len = headers_end (length sections + 2) + sum_by (λ s. s.raw_size) sections + dat_len + cod_len + 512 * (length sections + 3)
+length_bound sections dat_len cod_len =
+    headers_end (length sections + 2) + sum_by (λ s. s.raw_size) sections + dat_len + cod_len + 512 * (length sections + 3)
 
--- raw ranges in order that don't overlap: the first begins at or behind a place, each at a multiple of 512, and
+-- raw ranges in order that don't overlap: the first begins at or after a place, each at a multiple of 512, and
 -- the last ends at or before the file's end
 abbrev pub AreLaid : ℕ → List PeSection → ℕ → Type 0
 AreLaid from [] file_end = from ≤ file_end

@@ -1,81 +1,46 @@
 //! The CLI header (ECMA-335 II.25.3.3).
 
-ghost use Rattle.std.specs.Prelude.{◌≡◌, ◌+◌, ◌≤◌, ◌<◌, ◌^◌, length, IfOk, IfErr, OnOk, All, unwrap_or, true};
+ghost use Rattle.std.specs.Prelude.{◌≡◌, ◌+◌, ◌<◌, ◌^◌, IfOk, IfErr, OnOk};
 ghost use Rattle.rtr_bytes.specs.Checks.{first_fault};
-ghost use Rattle.pe_image.specs.Headers.{optional_at, directories_offset, sections_of, cli_at, metadata_place, metadata_size, native_span, native_of};
-ghost use Rattle.pe_image.specs.Checks.{cli_checks};
-ghost use Rattle.pe_image.specs.Sections.{IsInReach};
+ghost use Rattle.pe_image.specs.Headers.{sections_of, cli_at, native_span};
+ghost use Rattle.pe_image.specs.Checks.{directory_checks, cli_header_checks, cli_checks};
+ghost use Rattle.pe_image.specs.Cli.{IsCliOf};
+ghost use Rattle.pe_image.specs.Reach.{EndsInReach};
 
+use crate::check::{Check, found};
 use crate::layout::Layout;
-use crate::section::{PeSection, slice_in};
-use rtr_bytes::{Fault, Span, u32_or_zero};
+use crate::table::SectionTable;
+use rtr_bytes::{Fault, Span, ensure};
 
-/// How far into the data directories that of the CLI header stands: behind 14 of 8 bytes.
-const CLI_DIRECTORY: u32 = 112;
+/// The data directory of the CLI header (PE/COFF 3.4.3).
+const CLI_DIRECTORY: u32 = 14;
 /// The bytes of a CLI header, and its least `cb`.
 pub(crate) const CLI_HEADER_SIZE: u32 = 72;
+/// The RVA and the size of the metadata, from the CLI header's start on.
+const METADATA: u32 = 8;
+/// Flags.
+const FLAGS: u32 = 16;
+/// EntryPointToken.
+const ENTRY_POINT_TOKEN: u32 = 20;
+/// The RVA and the size of ManagedNativeHeader.
+const MANAGED_NATIVE_HEADER: u32 = 64;
 
-/// Where the CLI header and the metadata stand in the file.
-#[derive(Clone, Copy)]
+/// What the CLI header says, and its place in the file.
+#[derive(Clone, Copy, Debug)]
 pub(crate) struct Cli {
-    /// The file offset of the CLI header.
-    pub at: u32,
-    /// The file offset of the metadata, and its size.
+    /// The header's own bytes, as a range of the file.
+    pub header: Span,
+    /// The metadata, as a range of the file.
     pub metadata: Span,
+    /// Flags.
+    pub flags: u32,
+    /// EntryPointToken.
+    pub entry_token: u32,
+    /// ManagedNativeHeader, as a range of RVAs: `None` where both numbers are 0.
+    pub native: Option<Span>,
 }
 
-impl Cli {
-    /// The CLI header that directory 14 names, and the metadata that it names.
-    pub(crate) fn read(bytes: &[u8], layout: &Layout, sections: &[PeSection]) -> Result<Cli, Fault>
-        requires small { length bytes.now ≤ 2 ^ 31 }
-        requires directories { layout.now.directories ≡ optional_at bytes.now + directories_offset bytes.now }
-        requires inside { layout.now.directories + 120 ≤ length bytes.now }
-        requires sections { sections.now ≡ sections_of bytes.now }
-        requires in_reach { All IsInReach sections.now }
-        ensures fault { IfErr result (λ f. first_fault cli_checks bytes.now ≡ Some f) }
-        ensures ok { OnOk result (first_fault cli_checks bytes.now ≡ None) }
-        ensures at { IfOk result (λ cli. cli.at ≡ cli_at bytes.now) }
-        ensures in_reach { IfOk result (λ cli. cli.at + 72 < 2 ^ 32) }
-        ensures metadata_in_reach { IfOk result (λ cli. cli.metadata.start + cli.metadata.len < 2 ^ 32) }
-        ensures metadata { IfOk result (λ cli. cli.metadata ≡ record { start = unwrap_or (metadata_place bytes.now) 0; len = metadata_size bytes.now }) }
-    {
-        let directory = layout.directories + CLI_DIRECTORY;
-        let rva = u32_or_zero(bytes, directory);
-        let size = u32_or_zero(bytes, directory + 4);
-        let place = slice_in(sections, rva, CLI_HEADER_SIZE);
-        let Some(at) = place else {
-            return Err(Fault {
-                check: 12,
-                place: directory,
-            });
-        };
-        if size < CLI_HEADER_SIZE {
-            return Err(Fault {
-                check: 12,
-                place: directory,
-            });
-        }
-        if u32_or_zero(bytes, at) < CLI_HEADER_SIZE {
-            return Err(Fault {
-                check: 13,
-                place: at,
-            });
-        }
-        let len = u32_or_zero(bytes, at + 12);
-        match slice_in(sections, u32_or_zero(bytes, at + 8), len) {
-            Some(start) => Ok(Cli {
-                at,
-                metadata: Span { start, len },
-            }),
-            None => Err(Fault {
-                check: 14,
-                place: at + 8,
-            }),
-        }
-    }
-}
-
-/// ManagedNativeHeader: an RVA and a size, `None` where both are 0.
+/// A range of RVAs, and `None` where both numbers are 0.
 fn native_span(start: u32, len: u32) -> Option<Span>
     ensures { result ≡ native_span start len }
 {
@@ -86,12 +51,68 @@ fn native_span(start: u32, len: u32) -> Option<Span>
     }
 }
 
-/// The native header that the CLI header at a place names.
-pub(crate) fn native_at(bytes: &[u8], at: u32) -> Option<Span>
-    requires small { length bytes.now ≤ 2 ^ 31 }
-    requires here { at ≡ cli_at bytes.now }
-    requires in_reach { at + 72 < 2 ^ 32 }
-    ensures { result ≡ native_of bytes.now }
-{
-    native_span(u32_or_zero(bytes, at + 64), u32_or_zero(bytes, at + 68))
+impl Cli {
+    /// The place of the CLI header that data directory 14 names.
+    fn place(layout: &Layout<'_>, sections: &SectionTable) -> Result<u32, Fault>
+        requires { sections.now ≡ sections_of layout.now }
+        ensures fault { IfErr result (λ f. first_fault directory_checks layout.now ≡ Some f) }
+        ensures ok { OnOk result (first_fault directory_checks layout.now ≡ None) }
+        ensures place { IfOk result (λ at. at ≡ cli_at layout.now) }
+        ensures in_reach { IfOk result (λ at. at + 72 < 2 ^ 32) }
+    {
+        let file = layout.file();
+        let directory = layout.directory(CLI_DIRECTORY);
+        let size = file.u32(directory + 4);
+        ensure(
+            size >= CLI_HEADER_SIZE,
+            Check::CliDirectory as u16,
+            directory,
+        )?;
+        let place = sections.slice_of_rva(file.u32(directory), CLI_HEADER_SIZE);
+        found(place, Check::CliDirectory as u16, directory)
+    }
+
+    /// The CLI header at a place, once it is whole and its metadata are in a section.
+    fn at(layout: &Layout<'_>, sections: &SectionTable, at: u32) -> Result<Cli, Fault>
+        requires sections { sections.now ≡ sections_of layout.now }
+        requires here { at ≡ cli_at layout.now }
+        requires in_reach { at + 72 < 2 ^ 32 }
+        ensures fault { IfErr result (λ f. first_fault cli_header_checks layout.now ≡ Some f) }
+        ensures ok { OnOk result (first_fault cli_header_checks layout.now ≡ None) }
+        ensures cli { IfOk result (λ cli. IsCliOf layout.now cli) }
+        ensures metadata_in_reach { IfOk result (λ cli. EndsInReach cli.metadata) }
+    {
+        let file = layout.file();
+        let cb = file.u32(at);
+        ensure(cb >= CLI_HEADER_SIZE, Check::CliHeaderSize as u16, at)?;
+        let len = file.u32(at + METADATA + 4);
+        let place = sections.slice_of_rva(file.u32(at + METADATA), len);
+        let start = found(place, Check::Metadata as u16, at + METADATA)?;
+        Ok(Cli {
+            header: Span {
+                start: at,
+                len: CLI_HEADER_SIZE,
+            },
+            metadata: Span { start, len },
+            flags: file.u32(at + FLAGS),
+            entry_token: file.u32(at + ENTRY_POINT_TOKEN),
+            native: native_span(
+                file.u32(at + MANAGED_NATIVE_HEADER),
+                file.u32(at + MANAGED_NATIVE_HEADER + 4),
+            ),
+        })
+    }
+
+    /// The CLI header that data directory 14 names, once it is whole and its metadata are in a section.
+    pub(crate) fn read(layout: &Layout<'_>, sections: &SectionTable) -> Result<Cli, Fault>
+        requires { sections.now ≡ sections_of layout.now }
+        ensures fault { IfErr result (λ f. first_fault cli_checks layout.now ≡ Some f) }
+        ensures ok { OnOk result (first_fault cli_checks layout.now ≡ None) }
+        ensures cli { IfOk result (λ cli. IsCliOf layout.now cli) }
+        ensures header_in_reach { IfOk result (λ cli. EndsInReach cli.header) }
+        ensures metadata_in_reach { IfOk result (λ cli. EndsInReach cli.metadata) }
+    {
+        let at = Cli::place(layout, sections)?;
+        Cli::at(layout, sections, at)
+    }
 }

@@ -34,7 +34,7 @@ fn stairs(alloc: Global, run: &[PeSection]) -> Result<Vec<Step>, NoMemory>
     Ok(stairs)
 }
 
-/// Whether a section of the run with these stairs holds a range: the last step at or before `rva` tells it.
+/// Whether a section of the run with these stairs holds a range: the last step at or before `rva` decides it.
 fn has_step(stairs: &[Step], rva: u32, end: u64) -> bool
     requires { IsRising stairs.now }
     ensures { result ≡ list_any (holds rva end) stairs.now }
@@ -43,15 +43,15 @@ fn has_step(stairs: &[Step], rva: u32, end: u64) -> bool
     count > 0 && end <= stairs[count - 1].reach
 }
 
-/// A level: the table in runs of a width, and the stairs of every second of them from the first on, one behind the other. Those of
-/// the run at a place stand at half of that place.
+/// A level: the table in runs of a width, and the stairs of every second of them from the first on, one after the other. Those of
+/// the run at a place are at half of that place.
 #[derive(Debug, Drop)]
 struct Level {
     steps: Vec<Step>,
 }
 
 impl Level {
-    /// The level of a width, with the runs that have more sections behind them: no other is asked for.
+    /// The level of a width, with the runs that have more sections after them: no other is asked for.
     fn of(alloc: Global, sections: &[PeSection], width: usize) -> Result<Level, NoMemory>
         requires some { 0 < width }
         requires fits { width < length sections.now }
@@ -94,7 +94,7 @@ impl Finder {
     }
 
     /// Where a run of at most 16 sections begins whose first section that holds the range is the first of all. Each level halves the
-    /// run: to its first half where a section there holds the range, or nothing is behind it, and else to its second.
+    /// run: to its first half where a section there holds the range, or nothing is after it, and else to its second.
     fn run_of(&self, sections: &[PeSection], rva: u32, len: u32) -> usize
         requires { IsFinder self.now sections.now }
         ensures inside { result ≤ length sections.now }
@@ -122,7 +122,7 @@ impl Finder {
         ensures place { result ≡ slice_of_rva sections.now rva len }
         ensures in_reach { IfSome result (λ at. at + len < 2 ^ 32) }
     {
-        let behind = &sections[self.run_of(sections, rva, len)..];
-        slice_in(&behind[..behind.len().min(RUN)], rva, len)
+        let run = &sections[self.run_of(sections, rva, len)..];
+        slice_in(&run[..run.len().min(RUN)], rva, len)
     }
 }

@@ -1,7 +1,9 @@
 //! The PE headers of an assembly and its CLI header (PE/COFF 2 to 4, ECMA-335 II.25.3.3).
 #![tactic(auto)]
 
+mod check;
 mod cli;
+mod file;
 mod finder;
 mod layout;
 mod numbers;
@@ -9,6 +11,7 @@ mod pe;
 mod places;
 mod room;
 mod section;
+mod table;
 mod values;
 mod written;
 

@@ -27,7 +27,7 @@ fn put_number(out: &mut Vec<u8>, number: Number) -> Result<(), NoMemory>
     Ok(())
 }
 
-/// Appends numbers one behind the other. After an `Err` there may be a part of them.
+/// Appends numbers one after the other. After an `Err` there may be a part of them.
 pub(crate) fn put_numbers(out: &mut Vec<u8>, numbers: &[Number]) -> Result<(), NoMemory>
     ensures { OnOk result (out.new.items ≡ out.old.items ++ numbers_bytes numbers.now) }
 {

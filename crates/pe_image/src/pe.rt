@@ -6,11 +6,12 @@ ghost use Rattle.pe_image.specs.Headers.{Headers, headers_of};
 ghost use Rattle.pe_image.specs.Checks.{pe_checks};
 ghost use Rattle.pe_image.specs.Sections.{slice_of_rva};
 
-use crate::cli::{CLI_HEADER_SIZE, Cli, native_at};
-use crate::finder::Finder;
-use crate::layout::{Layout, signature_at};
-use crate::section::{PeSection, read_sections};
-use rtr_bytes::{ReadRefusal, Span, u32_or_zero};
+use crate::cli::Cli;
+use crate::file::FileBytes;
+use crate::layout::Layout;
+use crate::section::PeSection;
+use crate::table::SectionTable;
+use rtr_bytes::{ReadRefusal, Span};
 use std::alloc::Global;
 use std::marker::Model;
 
@@ -19,25 +20,28 @@ use std::marker::Model;
 pub struct Pe {
     machine: u16,
     wide: bool,
-    sections: Vec<PeSection>,
-    cli: Span,
-    metadata: Span,
-    cli_flags: u32,
-    entry_token: u32,
-    native: Option<Span>,
-    finder: Finder,
+    sections: SectionTable,
+    cli: Cli,
 }
 
 impl Model for Pe {
     ghost use Rattle.pe_image.specs.Headers.{Headers};
-    ghost use Rattle.pe_image.specs.Reach.{AreInReach};
-    ghost use Rattle.pe_image.specs.Finder.{IsFinder};
+    ghost use Rattle.pe_image.specs.Reach.{EndsInReach};
 
     ghost Value = { Headers };
 
-    ghost view = { λ p. record { machine = p.machine; wide = p.wide; sections = p.sections.items; cli = p.cli; metadata = p.metadata; cli_flags = p.cli_flags; entry_token = p.entry_token; native = p.native } };
+    ghost view = { λ p. record {
+      machine = p.machine;
+      wide = p.wide;
+      sections = p.sections;
+      cli = p.cli.header;
+      metadata = p.cli.metadata;
+      cli_flags = p.cli.flags;
+      entry_token = p.cli.entry_token;
+      native = p.cli.native;
+    } };
 
-    ghost invariant = { λ p. AreInReach p.sections.items p.cli p.metadata × IsFinder p.finder p.sections.items };
+    ghost invariant = { λ p. EndsInReach p.cli.header × EndsInReach p.cli.metadata };
 }
 
 impl Pe {
@@ -49,23 +53,14 @@ impl Pe {
         ensures well_formed { OnOk result (first_fault pe_checks bytes.now ≡ None) }
         ensures headers { IfOk result (λ pe. pe ≡ headers_of bytes.now) }
     {
-        let layout = Layout::read(bytes, signature_at(bytes)?)?;
-        let sections = read_sections(alloc, bytes, &layout)?;
-        let cli = Cli::read(bytes, &layout, &sections)?;
-        let finder = Finder::of(alloc, &sections)?;
+        let layout = Layout::read(FileBytes::new(bytes))?;
+        let sections = SectionTable::read(alloc, &layout)?;
+        let cli = Cli::read(&layout, &sections)?;
         Ok(Pe {
-            machine: layout.machine,
-            wide: layout.wide,
+            machine: layout.machine(),
+            wide: layout.wide(),
             sections,
-            cli: Span {
-                start: cli.at,
-                len: CLI_HEADER_SIZE,
-            },
-            metadata: cli.metadata,
-            cli_flags: u32_or_zero(bytes, cli.at + 16),
-            entry_token: u32_or_zero(bytes, cli.at + 20),
-            native: native_at(bytes, cli.at),
-            finder,
+            cli,
         })
     }
 
@@ -96,37 +91,37 @@ impl Pe {
         // It ends at a file offset of 32 bits.
         ensures in_reach { result.start + result.len < 2 ^ 32 }
     {
-        self.cli
+        self.cli.header
     }
 
-    /// The metadata, as a range of the file. Where it has no bytes, its start may lie behind the file's end.
+    /// The metadata, as a range of the file. Where it has no bytes, its start may be after the file's end.
     pub fn metadata(&self) -> Span
         ensures range { result ≡ self.now.metadata }
         // It ends at a file offset of 32 bits.
         ensures in_reach { result.start + result.len < 2 ^ 32 }
     {
-        self.metadata
+        self.cli.metadata
     }
 
     /// Flags of the CLI header (ECMA-335 II.25.3.3.1).
     pub fn cli_flags(&self) -> u32
         ensures { result ≡ self.now.cli_flags }
     {
-        self.cli_flags
+        self.cli.flags
     }
 
     /// EntryPointToken of the CLI header.
     pub fn entry_token(&self) -> u32
         ensures { result ≡ self.now.entry_token }
     {
-        self.entry_token
+        self.cli.entry_token
     }
 
     /// ManagedNativeHeader of the CLI header, as a range of RVAs. `None` exactly where RVA and size are 0.
     pub fn native(&self) -> Option<Span>
         ensures { result ≡ self.now.native }
     {
-        self.native
+        self.cli.native
     }
 
     /// The file offset of a range of RVAs, in the first section whose VirtualAddress is at most `rva` and
@@ -137,6 +132,6 @@ impl Pe {
         // The range ends at a file offset of 32 bits.
         ensures in_reach { IfSome result (λ at. at + len < 2 ^ 32) }
     {
-        self.finder.slice_in(&self.sections, rva, len)
+        self.sections.slice_of_rva(rva, len)
     }
 }

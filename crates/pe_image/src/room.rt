@@ -1,17 +1,21 @@
-//! Whether a file can be written behind an input, and where its new sections stand.
+//! Whether a file can be written, and where its new sections begin.
 
 ghost use Rattle.std.specs.Prelude.{◌≡◌, ◌+◌, ◌*◌, ◌≤◌, ◌<◌, ◌^◌, ◌↔◌, IsTrue, length, All, sum_by};
 ghost use Rattle.pe_image.specs.Places.{headers_end, dat_rva, cod_rva};
 ghost use Rattle.pe_image.specs.Written.{IsWritable};
 
+use crate::cli::CLI_HEADER_SIZE;
 use crate::pe::Pe;
-use crate::places::{NEW_SECTION_ALIGNMENT, aligned, highest_end};
+use crate::places::{
+    ALIGNMENT_ROOM, FILE_ALIGNMENT, NEW_SECTION_ALIGNMENT, NEW_SECTIONS, aligned, headers_end,
+    highest_end,
+};
 use crate::section::PeSection;
 
 /// The most sections that an input may have: a written file has two more, and their count has 16 bits.
-const MOST_SECTIONS: usize = 65533;
+const MOST_SECTIONS: usize = 65535 - NEW_SECTIONS;
 
-/// The RVA at which a file that is written behind an input has `.r2rdat`. It is above 32 bits where none can be written.
+/// The RVA of `.r2rdat` in a file that is written from an input. It is above 32 bits where none can be written.
 pub fn dat_rva(input: &Pe) -> u64
     ensures value { result ≡ dat_rva input.now.sections }
     ensures small { result < 2 ^ 34 }
@@ -19,7 +23,7 @@ pub fn dat_rva(input: &Pe) -> u64
     aligned(highest_end(input.sections()), NEW_SECTION_ALIGNMENT)
 }
 
-/// The RVA of `.r2rcod`, behind so many bytes of `.r2rdat`.
+/// The RVA of `.r2rcod`, after so many bytes of `.r2rdat`.
 pub fn cod_rva(input: &Pe, dat_len: u32) -> u64
     ensures { result ≡ cod_rva input.now.sections dat_len }
 {
@@ -31,7 +35,7 @@ fn has_room_for_headers(sections: &[PeSection]) -> bool
     requires { length sections.now ≤ 65533 }
     ensures { IsTrue result ↔ All (λ s. headers_end (length sections.now + 2) ≤ s.rva) sections.now }
 {
-    let headers_end = 328 + 40 * (sections.len() as u32 + 2);
+    let headers_end = headers_end((sections.len() + NEW_SECTIONS) as u16) as u32;
     sections.iter().all(|section| headers_end <= section.rva)
 }
 
@@ -49,7 +53,7 @@ fn raw_total(sections: &[PeSection]) -> u64
 }
 
 /// Whether [`write_pe`](crate::write_pe) can be called: there is room for the headers, the RVAs and the file places, and
-/// the CLI header is within `dat`.
+/// the CLI header at the RVA `cli_at` is within `dat`.
 pub fn can_write_pe(input: &Pe, dat: &[u8], cod: &[u8], cli_at: u32) -> bool
     ensures { IsTrue result ↔ IsWritable input.now.sections (length dat.now) (length cod.now) cli_at }
 {
@@ -57,14 +61,14 @@ pub fn can_write_pe(input: &Pe, dat: &[u8], cod: &[u8], cli_at: u32) -> bool
     if sections.len() > MOST_SECTIONS || dat.len() >= 1 << 32 || cod.len() >= 1 << 32 {
         return false;
     }
-    let count = sections.len() as u64;
+    let count = sections.len() + NEW_SECTIONS;
     let new = dat.len() as u64 + cod.len() as u64;
-    let headers_end = 328 + 40 * (count + 2);
+    let padding = FILE_ALIGNMENT * (count as u64 + 1);
     let dat_rva = dat_rva(input);
     let cli_at = u64::from(cli_at);
     has_room_for_headers(sections)
-        && highest_end(sections) + new + 131072 < 1 << 32
-        && headers_end + raw_total(sections) + new + 512 * (count + 3) < 1 << 32
+        && highest_end(sections) + new + ALIGNMENT_ROOM < 1 << 32
+        && headers_end(count as u16) + raw_total(sections) + new + padding < 1 << 32
         && dat_rva <= cli_at
-        && cli_at + 72 <= dat_rva + dat.len() as u64
+        && cli_at + u64::from(CLI_HEADER_SIZE) <= dat_rva + dat.len() as u64
 }

@@ -1,20 +1,28 @@
-//! A PE file written behind the sections of an input.
+//! A PE file of the sections of an input and two more.
 
-ghost use Rattle.std.specs.Prelude.{◌≡◌, ℕ, ◌+◌, ◌-◌, ◌*◌, ◌^◌, ◌≤◌, ◌<◌, ◌++◌, Some, None, length, map, take, drop, All, IfOk, OnOk, IsSome, [], ◌∷◌, if◌then◌else◌};
-ghost use Rattle.std.specs.List.{flat_map};
+ghost use Rattle.std.specs.Prelude.{◌≡◌, ℕ, ◌+◌, ◌-◌, ◌^◌, ◌≤◌, ◌<◌, List, [], ◌++◌, Some, None, length, map, take, drop, All, IfOk, OnOk, IsSome};
+ghost use Rattle.std.specs.List.{flat_map, AllZip};
 ghost use Rattle.rtr_bytes.specs.Checks.{first_fault};
-ghost use Rattle.pe_image.specs.Headers.{pe_at, is_wide, headers_of, sections_of};
+ghost use Rattle.pe_image.specs.declared.section.PeSection.{PeSection as SectionHeader};
+ghost use Rattle.pe_image.specs.Headers.{headers_of, sections_of};
 ghost use Rattle.pe_image.specs.Checks.{pe_checks};
-ghost use Rattle.pe_image.specs.Places.{dat_rva, cod_rva, dat_section, cod_section, placed_from, end_from, raw_start, written_sections, written_length, length_bound, headers_end, AreLaid};
-ghost use Rattle.pe_image.specs.Written.{image_size, header_values, header_fields, StandsIn, IsWritable, KeepsRanges, KeepsRaw, FindsPart, HasCliHeader, FailsLate, IsWellFormedWith};
-ghost use Rattle.pe_image.specs.Pieces.{header_bytes, section_bytes, padded, raw_of, raw_parts, file_of, IsInFile};
+ghost use Rattle.pe_image.specs.Places.{dat_rva, cod_rva, dat_section, cod_section, placed_from, end_from, written_table_at, written_sections, written_length, length_bound, headers_end, AreLaid};
+ghost use Rattle.pe_image.specs.Written.{image_size, header_sizes, header_values, header_fields, section_alignment_of, table_fields, Covers, StandsIn, IsPaddedFrom, HasPadded, IsWritable, KeepsRanges, KeepsRaw, FindsPart, HasCliHeader, FailsLate, IsWellFormedWith};
+ghost use Rattle.pe_image.specs.Raw.{raw_of, raw_parts, padded, IsInFile};
+ghost use Rattle.pe_image.specs.Pieces.{header_bytes, section_bytes, file_of};
+ghost use Rattle.pe_image.specs.Parts.{parts_start, parts_sections, parts_raw, AreJoinable};
 
+use crate::cli::CLI_HEADER_SIZE;
+use crate::file::FileBytes;
 use crate::numbers::{Number, put_numbers};
 use crate::pe::Pe;
-use crate::places::{FILE_ALIGNMENT, NewSections, aligned, put_padded, put_padding};
+use crate::places::{
+    FILE_ALIGNMENT, NEW_SECTIONS, NewSections, aligned, headers_end, put_padded, put_padding,
+    raw_end,
+};
 use crate::section::PeSection;
-use crate::values::HeaderValues;
-use rtr_bytes::{NoMemory, Span, u32_or_zero};
+use crate::values::{CoffHeader, Copied, HeaderValues, OptionalHeader, Sizes};
+use rtr_bytes::{NoMemory, Span};
 use std::alloc::Global;
 
 /// SizeOfImage, for the end of the last section: a multiple of SectionAlignment where there is one of 32 bits.
@@ -28,48 +36,23 @@ fn image_size(alignment: u32, image_end: u32) -> u32
     if up < 1 << 32 { up as u32 } else { image_end }
 }
 
-/// How far into an optional header the directories stand, in PE32+ and in PE32.
-fn directories_offset(wide: bool) -> u32
-    ensures { result ≡ (if wide then 112 else 96) }
-{
-    if wide { 112 } else { 96 }
-}
-
-impl HeaderValues {
-    /// The values behind an input's bytes, whose sections and two new ones these are.
-    fn of(
-        bytes: &[u8],
-        wide: bool,
-        sections: &[PeSection],
-        new: &NewSections,
-        cli_at: u32,
-    ) -> HeaderValues
-        requires small { length bytes.now ≤ 2 ^ 31 }
-        requires signature { pe_at bytes.now + 24 ≤ length bytes.now }
-        requires form { wide ≡ is_wide bytes.now }
-        requires count { length sections.now ≤ 65533 }
-        requires end { new.now.cod.rva + new.now.cod.virtual_size < 2 ^ 32 }
-        ensures { (dat_len cod_len : ℕ) → new.now.dat ≡ dat_section sections.now dat_len → new.now.cod ≡ cod_section sections.now dat_len cod_len
-            → result ≡ header_values sections.now bytes.now dat_len cod_len cli_at }
+impl Sizes {
+    /// What the optional header says of the sections of an input and two new ones.
+    fn of(section_alignment: u32, section_count: u16, new: &NewSections) -> Sizes
+        requires { new.now.cod.rva + new.now.cod.virtual_size < 2 ^ 32 }
+        ensures { (sections : List SectionHeader) (bytes : List ℕ) (dat_len cod_len : ℕ)
+            → section_alignment ≡ section_alignment_of bytes → section_count ≡ length sections + 2
+            → new.now.dat ≡ dat_section sections dat_len → new.now.cod ≡ cod_section sections dat_len cod_len
+            → result ≡ header_sizes sections bytes dat_len cod_len }
     {
-        let optional = u32_or_zero(bytes, 60) + 24;
-        let directories = optional + directories_offset(wide);
-        let section_alignment = u32_or_zero(bytes, optional + 32);
-        let section_count = sections.len() as u16 + 2;
-        let headers_end = 328 + 40 * u64::from(section_count);
-        HeaderValues {
-            section_count,
+        let headers_end = headers_end(section_count);
+        Sizes {
+            size_of_code: new.cod.raw_size,
+            size_of_initialized_data: new.dat.raw_size,
+            base_of_code: new.cod.rva,
             section_alignment,
-            code_size: new.cod.raw_size,
-            data_size: new.dat.raw_size,
-            code_rva: new.cod.rva,
-            image_size: image_size(section_alignment, new.cod.rva + new.cod.virtual_size),
-            headers_size: aligned(headers_end, FILE_ALIGNMENT) as u32,
-            resources: Span {
-                start: u32_or_zero(bytes, directories + 16),
-                len: u32_or_zero(bytes, directories + 20),
-            },
-            cli_at,
+            size_of_image: image_size(section_alignment, new.cod.rva + new.cod.virtual_size),
+            size_of_headers: aligned(headers_end, FILE_ALIGNMENT) as u32,
         }
     }
 }
@@ -110,7 +93,7 @@ impl PeSection {
     }
 }
 
-/// Appends the headers of sections whose raw bytes stand one behind the other from a place on, and tells where they end.
+/// Appends the headers of sections whose raw bytes are one after the other from a place on. It gives the place where those end.
 fn put_table(out: &mut Vec<u8>, sections: &[PeSection], first: u32) -> Result<u32, NoMemory>
     requires { end_from first sections.now < 2 ^ 32 }
     ensures table { OnOk result (out.new.items ≡ out.old.items ++ flat_map section_bytes (placed_from first sections.now)) }
@@ -139,52 +122,65 @@ fn put_raw(out: &mut Vec<u8>, sections: &[PeSection], bytes: &[u8]) -> Result<()
     Ok(())
 }
 
-/// The headers of a file, padded.
-fn headers(
-    alloc: Global,
-    values: &HeaderValues,
-    sections: &[PeSection],
-    new: &NewSections,
-) -> Result<Vec<u8>, NoMemory>
-    requires first { values.now.headers_size ≡ raw_start sections.now }
-    requires room { end_from (raw_start sections.now) (sections.now ++ new.now.dat ∷ new.now.cod ∷ []) < 2 ^ 32 }
-    ensures { IfOk result (λ out. out.items ≡ padded (header_bytes values.now ++ flat_map section_bytes (placed_from (raw_start sections.now) (sections.now ++ new.now.dat ∷ new.now.cod ∷ [])))) }
-{
-    let mut out = Vec::new(alloc);
-    values.put(&mut out)?;
-    let next = put_table(&mut out, sections, values.headers_size)?;
-    put_table(&mut out, &[new.dat, new.cod], next)?;
-    let len = out.len();
-    put_padding(&mut out, len)?;
-    Ok(out)
+/// What a written file is joined from.
+#[derive(Clone, Copy)]
+pub(crate) struct Parts<'a> {
+    /// The headers up to the section table.
+    pub values: HeaderValues,
+    /// The section headers of the input.
+    pub sections: &'a [PeSection],
+    /// Those of the two new sections.
+    pub new: NewSections,
+    /// The bytes of the input.
+    pub bytes: &'a [u8],
+    /// The bytes of `.r2rdat`.
+    pub dat: &'a [u8],
+    /// The bytes of `.r2rcod`.
+    pub cod: &'a [u8],
 }
 
-/// The whole file, from its headers' values and its sections' bytes.
-fn join(
-    alloc: Global,
-    values: &HeaderValues,
-    sections: &[PeSection],
-    new: &NewSections,
-    bytes: &[u8],
-    dat: &[u8],
-    cod: &[u8],
-) -> Result<Vec<u8>, NoMemory>
-    requires first { values.now.headers_size ≡ raw_start sections.now }
-    requires room { end_from (raw_start sections.now) (sections.now ++ new.now.dat ∷ new.now.cod ∷ []) < 2 ^ 32 }
-    requires raw { All (IsInFile bytes.now) sections.now }
-    requires dat { length dat.now < 2 ^ 32 }
-    requires cod { length cod.now < 2 ^ 32 }
-    ensures { IfOk result (λ out. out.items ≡ file_of values.now (placed_from (raw_start sections.now) (sections.now ++ new.now.dat ∷ new.now.cod ∷ [])) (raw_parts sections.now bytes.now dat.now cod.now)) }
-{
-    let mut out = headers(alloc, values, sections, new)?;
-    put_raw(&mut out, sections, bytes)?;
-    put_padded(&mut out, dat)?;
-    put_padded(&mut out, cod)?;
-    Ok(out)
+impl<'a> Parts<'a> {
+    /// How many bytes the file has.
+    fn len(&self) -> u32
+        requires { AreJoinable self.now }
+        ensures { result ≡ end_from (parts_start self.now) (parts_sections self.now) }
+    {
+        let first = self.values.optional.size_of_headers;
+        raw_end(&[self.new.dat, self.new.cod], raw_end(self.sections, first))
+    }
+
+    /// Appends the headers to nothing, padded.
+    fn put_headers(&self, out: &mut Vec<u8>) -> Result<(), NoMemory>
+        requires joinable { AreJoinable self.now }
+        requires first { out.old.items ≡ [] }
+        ensures { OnOk result (out.new.items ≡ padded (header_bytes self.now.values
+            ++ flat_map section_bytes (placed_from (parts_start self.now) (parts_sections self.now)))) }
+    {
+        self.values.put(out)?;
+        let first = self.values.optional.size_of_headers;
+        let next = put_table(out, self.sections, first)?;
+        put_table(out, &[self.new.dat, self.new.cod], next)?;
+        let len = out.len();
+        put_padding(out, len)
+    }
+
+    /// The whole file.
+    fn join(&self, alloc: Global) -> Result<Vec<u8>, NoMemory>
+        requires { AreJoinable self.now }
+        ensures { IfOk result (λ out. out.items ≡ file_of self.now.values
+            (placed_from (parts_start self.now) (parts_sections self.now)) (parts_raw self.now)) }
+    {
+        let mut out = Vec::with_capacity(alloc, self.len() as usize)?;
+        self.put_headers(&mut out)?;
+        put_raw(&mut out, self.sections, self.bytes)?;
+        put_padded(&mut out, self.dat)?;
+        put_padded(&mut out, self.cod)?;
+        Ok(out)
+    }
 }
 
 /// Writes a PE file of an input's sections and two more, `.r2rdat` with the bytes `dat` and `.r2rcod` with `cod`. The CLI
-/// header is the one that stands in `dat` at the RVA `cli_at`. The input's bytes keep their RVAs, and raw places move.
+/// header is the one in `dat` at the RVA `cli_at`. The input's bytes keep their RVAs, and raw places move.
 pub fn write_pe(
     alloc: Global,
     input: &Pe,
@@ -199,15 +195,23 @@ pub fn write_pe(
     requires well_formed { first_fault pe_checks bytes.now ≡ None }
     requires writable { IsWritable input.now.sections (length dat.now) (length cod.now) cli_at }
 
-    // Each number of the headers stands at its place.
+    // Each number of the headers is at its place, and the fields are all that the file has before its section table.
     ensures headers { IfOk result (λ out. All (StandsIn out.items)
         (header_fields (header_values input.now.sections bytes.now (length dat.now) (length cod.now) cli_at))) }
-    // The input's section headers with raw places moved, and then the two new ones.
+    ensures covered { Covers 0
+        (header_fields (header_values input.now.sections bytes.now (length dat.now) (length cod.now) cli_at)) written_table_at }
+    // The input's section headers with raw places moved, and then the two new ones. They have no relocations and no line numbers.
     ensures sections { IfOk result (λ out. sections_of out.items ≡ written_sections input.now.sections (length dat.now) (length cod.now)) }
+    ensures table { IfOk result (λ out. All (StandsIn out.items)
+        (table_fields written_table_at (written_sections input.now.sections (length dat.now) (length cod.now)))) }
     ensures laid { IfOk result (λ out. AreLaid (headers_end (length input.now.sections + 2)) (sections_of out.items) (length out.items)) }
     ensures length { IfOk result (λ out. length out.items ≡ written_length input.now.sections (length dat.now) (length cod.now)) }
     ensures bounded { IfOk result (λ out. length out.items ≤ length_bound input.now.sections (length dat.now) (length cod.now)) }
 
+    // After the headers, and after the bytes of each section, there are zeros up to a multiple of 512.
+    ensures headers_padded { IfOk result (λ out. IsPaddedFrom out.items (headers_end (length input.now.sections + 2))) }
+    ensures padded { IfOk result (λ out. AllZip (HasPadded out.items) (sections_of out.items)
+        (raw_parts input.now.sections bytes.now dat.now cod.now)) }
     // Each section of the input keeps its raw bytes, whether an RVA leads to them or not.
     ensures raw { IfOk result (λ out. KeepsRaw input.now.sections bytes.now (sections_of out.items) out.items) }
     // Bytes by their RVAs.
@@ -221,7 +225,26 @@ pub fn write_pe(
     ensures well_formed { IfOk result (λ out. IsWellFormedWith out.items dat.now (cli_at - dat_rva input.now.sections)) }
 {
     let sections = input.sections();
-    let new = NewSections::behind(sections, dat.len() as u32, cod.len() as u32);
-    let values = HeaderValues::of(bytes, input.wide(), sections, &new, cli_at);
-    join(alloc, &values, sections, &new, bytes, dat, cod)
+    let new = NewSections::after(sections, dat.len() as u32, cod.len() as u32);
+    let section_count = (sections.len() + NEW_SECTIONS) as u16;
+    let copied = Copied::of(&FileBytes::new(bytes), input.wide());
+    let sizes = Sizes::of(copied.section_alignment, section_count, &new);
+    let values = HeaderValues {
+        coff: CoffHeader::of(section_count),
+        optional: OptionalHeader::of(&sizes),
+        resource_table: copied.resource_table,
+        cli_header: Span {
+            start: cli_at,
+            len: CLI_HEADER_SIZE,
+        },
+    };
+    let parts = Parts {
+        values,
+        sections,
+        new,
+        bytes,
+        dat,
+        cod,
+    };
+    parts.join(alloc)
 }

@@ -21,14 +21,17 @@ and_false false = refl
 pub trimmed-zero : (xs : List ℕ) → trimmed (xs ++ 0 ∷ []) ≡ trimmed xs
 trimmed-zero [] = refl
 trimmed-zero (x ∷ xs) =
-    let all : list_all is_zero ((x ∷ xs) ++ 0 ∷ []) ≡ list_all is_zero (x ∷ xs) = list_all-append is_zero (x ∷ xs) (0 ∷ []) ∙ and_true (list_all is_zero (x ∷ xs)) (list_all is_zero (0 ∷ [])) refl in
-    ap (λ (b : Bool). cond b [] (x ∷ trimmed (xs ++ 0 ∷ []))) all ∙ ap (λ (ys : List ℕ). cond (list_all is_zero (x ∷ xs)) [] (x ∷ ys)) (trimmed-zero xs)
+    let all : list_all is_zero ((x ∷ xs) ++ 0 ∷ []) ≡ list_all is_zero (x ∷ xs) = list_all-append is_zero (x ∷ xs) (0 ∷ [])
+    ∙ and_true (list_all is_zero (x ∷ xs)) (list_all is_zero (0 ∷ [])) refl in
+    ap (λ (b : Bool). cond b [] (x ∷ trimmed (xs ++ 0 ∷ []))) all
+    ∙ ap (λ (ys : List ℕ). cond (list_all is_zero (x ∷ xs)) [] (x ∷ ys)) (trimmed-zero xs)
 
 -- what ends with another byte has no trailing zero
 pub trimmed-other : (xs : List ℕ) (b : ℕ) → b ≢ 0 → trimmed (xs ++ b ∷ []) ≡ xs ++ b ∷ []
 trimmed-other [] b h = rw (ne_eqb b 0 h) refl
 trimmed-other (x ∷ xs) b h =
-    let all : list_all is_zero ((x ∷ xs) ++ b ∷ []) ≡ false = list_all-append is_zero (x ∷ xs) (b ∷ []) ∙ rw (ne_eqb b 0 h) (and_false (list_all is_zero (x ∷ xs))) in
+    let all : list_all is_zero ((x ∷ xs) ++ b ∷ []) ≡ false = list_all-append is_zero (x ∷ xs) (b ∷ [])
+    ∙ rw (ne_eqb b 0 h) (and_false (list_all is_zero (x ∷ xs))) in
     ap (λ (t : Bool). cond t [] (x ∷ trimmed (xs ++ b ∷ []))) all ∙ ap (λ (ys : List ℕ). x ∷ ys) (trimmed-other xs b h)
 
 -- the last element of a front
@@ -38,7 +41,8 @@ take-last xs n h k =
     ap (λ (m : ℕ). take m xs) (sym step) ∙ take_more xs (n - 1) 0 (omega arith)
 
 -- the same from a front of a list
-pub trimmed-take_zero : (xs : List ℕ) (n : ℕ) → 0 < n → n ≤ length xs → get_or xs (n - 1) 0 ≡ 0 → trimmed (take (n - 1) xs) ≡ trimmed (take n xs)
+pub trimmed-take_zero : (xs : List ℕ) (n : ℕ) → 0 < n → n ≤ length xs → get_or xs (n - 1) 0 ≡ 0
+    → trimmed (take (n - 1) xs) ≡ trimmed (take n xs)
 trimmed-take_zero xs n h k e =
     let more : take n xs ≡ take (n - 1) xs ++ 0 ∷ [] = take-last xs n h k ∙ ap (λ (b : ℕ). take (n - 1) xs ++ b ∷ []) e in
     sym (ap trimmed more ∙ trimmed-zero (take (n - 1) xs))

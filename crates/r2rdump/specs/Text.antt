@@ -1,5 +1,5 @@
 -- The text of a dump, over the records of a file.
-use Rattle.std.specs.Prelude.{ℕ, ◌+◌, ◌/◌, ◌%◌, ◌^◌, ◌==◌, ◌&&◌, ◌||◌, List, [], ◌∷◌, ◌++◌, length, map, take, drop, codes, decimal, slice_index_or, Bool, Option, Some, None, nat_le, nat_lt, if◌then◌else◌}
+use Rattle.std.specs.Prelude.{ℕ, ◌+◌, ◌/◌, ◌%◌, ◌^◌, ◌==◌, ◌&&◌, ◌||◌, List, [], ◌∷◌, ◌++◌, length, map, codes, decimal, slice_index_or, Bool, Option, Some, None, nat_le, nat_lt, if◌then◌else◌}
 use Rattle.std.specs.List.{flat_map, list_all}
 use Rattle.std.specs.Int.{w16, w32, to_be_bytes}
 use Rattle.hex.specs.Hex.{encode_lower}
@@ -14,7 +14,6 @@ use Rattle.rtr_sections.specs.declared.slots.Slot.{Slot}
 use Rattle.rtr_sections.specs.declared.functions.Function.{Function}
 use Rattle.rtr_sections.specs.declared.entries.EntryPoint.{EntryPoint}
 use Rattle.rtr_sections.specs.declared.image.Image.{Image}
-use Rattle.rtr_sections.specs.Imports.{slot_count}
 
 -- numbers in lower-case hexadecimal, of four and of eight digits
 abbrev pub hex4 : ℕ → List ℕ
@@ -79,25 +78,23 @@ rtr_section_line s = codes "rtr " ++ decimal s.kind ++ codes " rva " ++ hex8 s.r
 -- ---- import records and slots
 
 -- how many cells of EntrySize bytes a record has room for, and none where that is 0
-abbrev pub told_slots : ImportSection → ℕ
-told_slots import = if import.entry_size == 0 then 0 else import.size / import.entry_size
+abbrev pub cell_count : ImportSection → ℕ
+cell_count import = if import.entry_size == 0 then 0 else import.size / import.entry_size
 
 abbrev pub import_line : ℕ → ImportSection → List ℕ
 import_line n import =
-    codes "import " ++ decimal n ++ codes " rva " ++ hex8 import.rva ++ codes " size " ++ hex8 import.size ++ codes " flags " ++ hex4 import.flags
-    ++ codes " type " ++ decimal import.kind ++ codes " entry " ++ decimal import.entry_size ++ codes " slots " ++ decimal (told_slots import) ++ newline
+    codes "import " ++ decimal n ++ codes " rva " ++ hex8 import.rva ++ codes " size " ++ hex8 import.size ++ codes " flags " ++ hex4
+    import.flags
+    ++ codes " type " ++ decimal import.kind ++ codes " entry " ++ decimal import.entry_size ++ codes " slots " ++ decimal
+    (cell_count import) ++ newline
 
 -- a slot by its number in its section, and its signature
 abbrev pub slot_line : ℕ → Slot → List ℕ
 slot_line n slot = codes "slot " ++ decimal n ++ codes " " ++ encode_lower (fixup_bytes slot.fixup) ++ newline
 
--- Each record, and behind it its slots. The slots are those of all records in their order: a record's are the
--- first of what is left. A foreign image has none.
-abbrev pub import_lines : ℕ → List ImportSection → List Slot → List ℕ
-import_lines n [] slots = []
-import_lines n (import ∷ imports) slots =
-    import_line n import ++ numbered slot_line 0 (take (slot_count import) slots)
-    ++ import_lines (n + 1) imports (drop (slot_count import) slots)
+-- a record, and after it its own slots
+abbrev pub record_lines : (ImportSection → List Slot) → ℕ → ImportSection → List ℕ
+record_lines slots_of n import = import_line n import ++ numbered slot_line 0 (slots_of import)
 
 -- ---- entries
 
@@ -124,15 +121,16 @@ entry_line functions entry = entry_line_of entry (function_at functions entry.fu
 
 -- ---- all of them
 
-abbrev pub image_lines : Image → List ℕ
-image_lines image =
+-- an image whose import records have these slots
+abbrev pub image_lines : (ImportSection → List Slot) → Image → List ℕ
+image_lines slots_of image =
     native_line image.own image.header ++ flat_map rtr_section_line image.header.sections
-    ++ import_lines 0 image.imports image.slots ++ flat_map (entry_line image.functions) image.entries
+    ++ numbered (record_lines slots_of) 0 image.imports ++ flat_map (entry_line image.functions) image.entries
 
-abbrev pub native_lines : Option Image → List ℕ
-native_lines None = codes "native none" ++ newline
-native_lines (Some image) = image_lines image
+abbrev pub native_lines : (ImportSection → List Slot) → Option Image → List ℕ
+native_lines slots_of None = codes "native none" ++ newline
+native_lines slots_of (Some image) = image_lines slots_of image
 
--- the text of a file of a name and a length that has these headers and this ReadyToRun part
-abbrev pub text_of : List ℕ → ℕ → Headers → Option Image → List ℕ
-text_of name len pe image = file_line name len ++ header_lines pe ++ native_lines image
+-- the text of a file of a name and a length that has these headers and this ReadyToRun part, with the slots of its import records
+abbrev pub text_of : List ℕ → ℕ → Headers → (ImportSection → List Slot) → Option Image → List ℕ
+text_of name len pe slots_of image = file_line name len ++ header_lines pe ++ native_lines slots_of image

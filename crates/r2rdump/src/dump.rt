@@ -7,11 +7,12 @@ ghost use Rattle.pe_image.specs.Checks.{pe_checks};
 ghost use Rattle.pe_image.specs.Headers.{headers_of};
 ghost use Rattle.fixup_sigs.specs.Shortest.{IsSpellable};
 ghost use Rattle.rtr_sections.specs.Image.{rtr_checks};
+ghost use Rattle.r2rdump.specs.OnePass.{text_in_one_pass};
 ghost use Rattle.r2rdump.specs.Dump.{dump_checks, native_image_of, dump_text, IsRefused};
 
 use crate::text::Text;
 use pe_image::Pe;
-use rtr_bytes::{Fault, ReadRefusal};
+use rtr_bytes::{Fault, NoMemory, ReadRefusal};
 use rtr_outside::{Sink, SinkFailed, write_all};
 use rtr_sections::{Image, read_rtr};
 use std::alloc::Global;
@@ -26,7 +27,7 @@ pub enum DumpRefusal {
     /// The bytes fail a check. It is the first that they fail, with its first place. Nothing was written.
     #[error("check {} fails at {}", .0.check, .0.place)]
     Malformed(Fault),
-    /// The sink had a fault, and has a front of the text.
+    /// The sink had a fault, and has the text up to some byte.
     #[error("the write failed")]
     SinkFailed,
     /// Memory was refused. Nothing was written.
@@ -53,8 +54,26 @@ fn read_image(alloc: Global, pe: &Pe, bytes: &[u8]) -> Result<Option<Image>, Rea
     }
 }
 
+/// The text of a file of a name and a length that has these headers and this ReadyToRun part.
+fn printed(
+    alloc: Global,
+    name: &str,
+    len: usize,
+    pe: &Pe,
+    image: &Option<Image>,
+) -> Result<Text, NoMemory>
+    requires { IfSome image.now (λ image. All (λ slot. IsSpellable slot.fixup) image.slots) }
+    ensures { IfOk result (λ text. text ≡ text_in_one_pass name.now len pe.now image.now) }
+{
+    let mut text = Text::new(alloc);
+    text.file_line(name, len)?;
+    text.header_lines(pe)?;
+    text.native_lines(alloc, image)?;
+    Ok(text)
+}
+
 /// The text for a file's bytes. `Malformed` names the first check that fails, with its place.
-#[tactic(auto, unfolding(crate::specs::Dump::dump_checks, crate::specs::Dump::dump_text))]
+#[tactic(auto, unfolding(crate::specs::Dump::dump_checks))]
 fn text_of(alloc: Global, name: &str, bytes: &[u8]) -> Result<Text, ReadRefusal>
     requires { length bytes.now ≤ 2 ^ 31 }
     ensures malformed { IfErr result (λ e. RefusedBy (first_fault dump_checks bytes.now) e) }
@@ -63,10 +82,7 @@ fn text_of(alloc: Global, name: &str, bytes: &[u8]) -> Result<Text, ReadRefusal>
 {
     let pe = Pe::read(alloc, bytes)?;
     let image = read_image(alloc, &pe, bytes)?;
-    let mut text = Text::new(alloc);
-    text.file_line(name, bytes.len())?;
-    text.header_lines(&pe)?;
-    text.native_lines(alloc, &image)?;
+    let text = printed(alloc, name, bytes.len(), &pe, &image)?;
     Ok(text)
 }
 

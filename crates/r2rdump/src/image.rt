@@ -3,7 +3,8 @@
 ghost use Rattle.std.specs.Prelude.{◌≡◌, ◌++◌, ◌/◌, All, IfSome, OnOk, drop, take};
 ghost use Rattle.std.specs.List.{flat_map};
 ghost use Rattle.fixup_sigs.specs.Shortest.{IsSpellable};
-ghost use Rattle.r2rdump.specs.Text.{entry_line, function_at, image_lines, import_line, import_lines, method_token, native_line, native_lines, numbered, rtr_section_line, slot_line, slot_ref, told_slots};
+ghost use Rattle.r2rdump.specs.Text.{cell_count, entry_line, function_at, import_line, method_token, native_line, numbered, rtr_section_line, slot_line, slot_ref};
+ghost use Rattle.r2rdump.specs.OnePass.{image_in_one_pass, imports_in_one_pass, native_in_one_pass};
 
 use crate::text::Text;
 use native_format::SlotRef;
@@ -18,8 +19,8 @@ const METHOD_DEF: u32 = 0x0600_0000;
 const CELL_SIZE: u32 = 8;
 
 /// How many cells of EntrySize bytes an import record has room for, and none where that is 0.
-fn told_slots(import: &ImportSection) -> u32
-    ensures { result ≡ told_slots import.now }
+fn cell_count(import: &ImportSection) -> u32
+    ensures { result ≡ cell_count import.now }
 {
     if import.entry_size == 0 {
         0
@@ -28,10 +29,10 @@ fn told_slots(import: &ImportSection) -> u32
     }
 }
 
-/// The slots of an import record, and those of the records behind it.
+/// The slots of an import record, and those of the records after it.
 fn split_slots(slots: &[Slot], count: u32) -> (&[Slot], &[Slot])
-    ensures front { result.0.now ≡ take count slots.now }
-    ensures back { result.1.now ≡ drop count slots.now }
+    ensures own { result.0.now ≡ take count slots.now }
+    ensures others { result.1.now ≡ drop count slots.now }
 {
     let count = count as usize;
     if count <= slots.len() {
@@ -103,7 +104,7 @@ impl Text {
         self.hex16(" flags ", import.flags)?;
         self.decimal(" type ", u64::from(import.kind))?;
         self.decimal(" entry ", u64::from(import.entry_size))?;
-        self.decimal(" slots ", u64::from(told_slots(import)))?;
+        self.decimal(" slots ", u64::from(cell_count(import)))?;
         self.words("\n")
     }
 
@@ -133,7 +134,7 @@ impl Text {
         slots: &[Slot],
     ) -> Result<(), NoMemory>
         requires { All (λ slot. IsSpellable slot.fixup) slots.now }
-        ensures { OnOk result (self.new ≡ self.old ++ import_lines 0 imports.now slots.now) }
+        ensures { OnOk result (self.new ≡ self.old ++ imports_in_one_pass 0 imports.now slots.now) }
     {
         let mut rest = slots;
         for (number, import) in imports.iter().enumerate() {
@@ -189,7 +190,7 @@ impl Text {
 
     fn image_lines(&mut self, alloc: Global, image: &Image) -> Result<(), NoMemory>
         requires { All (λ slot. IsSpellable slot.fixup) image.now.slots }
-        ensures { OnOk result (self.new ≡ self.old ++ image_lines image.now) }
+        ensures { OnOk result (self.new ≡ self.old ++ image_in_one_pass image.now) }
     {
         self.native_line(image.own(), &image.header)?;
         self.rtr_section_lines(image.header.sections.as_slice())?;
@@ -204,7 +205,7 @@ impl Text {
         image: &Option<Image>,
     ) -> Result<(), NoMemory>
         requires { IfSome image.now (λ image. All (λ slot. IsSpellable slot.fixup) image.slots) }
-        ensures { OnOk result (self.new ≡ self.old ++ native_lines image.now) }
+        ensures { OnOk result (self.new ≡ self.old ++ native_in_one_pass image.now) }
     {
         match image {
             None => self.words("native none\n"),

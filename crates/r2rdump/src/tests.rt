@@ -72,7 +72,7 @@ fn file_with(alloc: Global, changes: &str) -> Result<Vec<u8>, Fail> {
     Ok(bytes)
 }
 
-/// Writes bytes from a place on, and answers the place behind them.
+/// Writes bytes from a place on, and gives the place after them.
 fn put_hex(alloc: Global, bytes: &mut [u8], mut at: usize, word: &str) -> Result<usize, Fail> {
     for byte in &hex::decode(alloc, word)? {
         if let Some(old) = bytes.get_mut(at) {
@@ -96,8 +96,8 @@ fn expect<R: Abort>(
     let bytes = file_with(alloc, changes)?;
     let mut out = MemSink::new(alloc, room, Vec::new(alloc))?;
     if bytes.len() <= 1 << 31 {
-        let told = dump_text(alloc, "T", &bytes, &mut out);
-        assert!(rt; told == answer, "{changes}");
+        let answered = dump_text(alloc, "T", &bytes, &mut out);
+        assert!(rt; answered == answer, "{changes}");
     }
     assert_eq!(rt; out.bytes(), text.as_bytes(), "{changes}");
     Ok(())

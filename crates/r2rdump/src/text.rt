@@ -49,7 +49,7 @@ impl Text {
         Ok(())
     }
 
-    /// Adds words, and bytes behind them.
+    /// Adds words, and bytes after them.
     fn words_and(&mut self, words: &str, bytes: &[u8]) -> Result<(), NoMemory>
         ensures { OnOk result (self.new ≡ self.old ++ words.now ++ bytes.now) }
     {
@@ -118,7 +118,7 @@ impl Text {
     }
 }
 
-/// The bytes in front of the trailing zeros.
+/// The bytes before the trailing zeros.
 fn without_padding(name: &[u8]) -> &[u8]
     ensures { result.now ≡ trimmed name.now }
 {

@@ -9,4 +9,5 @@ returns c =
     let more : ℕ = c.aligned.result - c.args.len in
     let few : more ≤ 512 = omega arith in
     let put : c.extend_from_slice.new.self.items ≡ old ++ take more (replicate 512 0) = c.in_ok-extend_from_slice.ensures.items in
-    put ∙ ap (λ (t : List ℕ). old ++ t) (take-replicate more 512 0 few) ∙ ap (λ (t : ℕ). old ++ replicate (t - c.args.len) 0) c.aligned.ensures.value
+    put ∙ ap (λ (t : List ℕ). old ++ t) (take-replicate more 512 0 few)
+    ∙ ap (λ (t : ℕ). old ++ replicate (t - c.args.len) 0) c.aligned.ensures.value

@@ -9,7 +9,12 @@ overflow_add-at c =
     let ss = c.args.sections.now in
     let d : PeSection = record { name = []; virtual_size = 0; rva = 0; raw_size = 0; raw_at = 0; flags = 0 } in
     let more : c.loop-section.section-index < length ss = omega arith in
-    omega (arith, next_within ss c.loop-section.at c.loop-section.section-index c.aligned.result c.from.result (end_from c.args.first ss) d more c.from.ensures c.aligned.ensures.value c.loop-section.invariant.end, c.requires)
+    omega (
+      arith,
+      next_within ss c.loop-section.at c.loop-section.section-index c.aligned.result c.from.result (end_from c.args.first ss)
+          d more c.from.ensures c.aligned.ensures.value c.loop-section.invariant.end,
+      c.requires,
+    )
 
 pub overflow_cast-at : goal.overflow_cast-at
 overflow_cast-at c = omega (arith, overflow_add-at c)

@@ -9,7 +9,8 @@ invariant-loop-section l =
     let left = drop l.section-index l.sections in
     record {
       -- what was put and what is left are all
-      put : l.out.items ++ flat_map section_bytes (placed_from l.at left) ≡ l.initial.out.items ++ flat_map section_bytes (placed_from l.first l.sections);
+      put : l.out.items ++ flat_map section_bytes (placed_from l.at left) ≡ l.initial.out.items ++ flat_map section_bytes
+          (placed_from l.first l.sections);
       -- what is left ends where all does
       end : end_from l.at left ≡ end_from l.first l.sections;
     }

@@ -1,5 +1,5 @@
 use Rattle.std.proofs.Common.{◌≡◌, ◌+◌, ◌-◌, ℕ, take, drop, ap, sym, arith}
-use Rattle.pe_image.specs.Pieces.{raw_of}
+use Rattle.pe_image.specs.Raw.{raw_of}
 use Rattle.pe_image.proofs.section.PeSection.raw_bytes.Goals as goal
 
 pub returns-then-self-eq0-clause-value : goal.returns-then-self-eq0-clause-value
