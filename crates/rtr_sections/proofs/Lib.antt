@@ -4,7 +4,6 @@ pub mod Numbered
 pub mod CodeEnds
 pub mod SlotsRead
 pub mod BadWords
-pub mod FixupLaws
 pub mod EntriesRead
 pub mod AllChecks
 pub mod Types

@@ -1,9 +1,10 @@
 -- What is computed of the fixup that bytes begin with is what the relation of fixups and their spellings says.
-use Rattle.std.proofs.Common.{◌≡◌, ◌<◌, ◌+◌, ◌-◌, ◌*◌, ◌==◌, ◌&&◌, ℕ, Bool, true, false, cond, List, [], ◌∷◌, ◌++◌, length, drop, Some, None, unwrap_or, refl, sym, ap, ◌∙◌, subst, append_assoc, arith}
+use Rattle.std.proofs.Common.{◌≡◌, ◌<◌, ◌≤◌, ◌+◌, ◌-◌, ◌*◌, ◌==◌, ◌&&◌, ℕ, Bool, true, false, cond, List, [], ◌∷◌, ◌++◌, length, drop, Option, Some, None, unwrap_or, refl, sym, ap, ◌∙◌, subst, append_assoc, arith}
 use Rattle.std.proofs.lemmas.Bool.{lt-ltb, le-ltb, le-leb}
 use Rattle.std.proofs.lemmas.Bool.Decides.{nat_tests}
 use Rattle.std.specs.Prelude.{nat_lt}
-use Rattle.std.specs.Option.{option_map}
+use Rattle.std.specs.Option.{option_map, IfSome}
+use Rattle.std.proofs.lemmas.List.{length-append, length-drop}
 use Rattle.rtr_bytes.specs.Compressed.{IsCompressed}
 use Rattle.rtr_bytes.specs.Spelling.{BeginsAt}
 use Rattle.fixup_sigs.specs.declared.fixup.Fixup.{Fixup}
@@ -11,7 +12,7 @@ use Rattle.fixup_sigs.specs.declared.fixup.Fixup.TheVariants as fixups
 use Rattle.fixup_sigs.specs.declared.fixup.SigType.TheVariants as types
 use Rattle.fixup_sigs.specs.declared.fixup.FieldToken.{FieldToken}
 use Rattle.fixup_sigs.specs.Fixup.{IsElement, IsFixup, IsFieldToken, IsSigType, IsPair, flags_of}
-use Rattle.rtr_sections.specs.Fixups.{Found, made, then_in, two_in, four_in, number_in, is_element, element_in, type_in, array_in, token, row_in, field_in, payload_in, fixup_in, fixup_at}
+use Rattle.fixup_sigs.specs.Reading.{Found, made, then_in, two_in, four_in, compressed_in, is_element, element_in, type_in, array_type_in, token, row_in, field_in, payload_in, fixup_in, with_next, without_next, fixup_and_next_at, fixup_at}
 
 -- ---- what is found is spelled
 
@@ -71,8 +72,8 @@ four_sound high (b ∷ c ∷ d ∷ more) n rest e =
     (b, c, d, ap (λ r. b ∷ c ∷ d ∷ r) end, grind (arith, nat_tests), grind (arith, nat_tests), grind (arith, nat_tests), sym same))
     (λ t s. none_some n rest s)
 
-number_sound : IsSound IsCompressed number_in
-unfolding number_in
+number_sound : IsSound IsCompressed compressed_in
+unfolding compressed_in
 number_sound [] n rest e = none_some n rest e
 number_sound (a ∷ more) n rest e =
     chosen (nat_lt a 0x80) (Some (a, more)) (cond (nat_lt a 0xC0) (two_in (a - 0x80) more) (cond (nat_lt a 0xE0) (four_in (a - 0xC0) more) None)) (Some (n, rest)) e
@@ -83,8 +84,8 @@ number_sound (a ∷ more) n rest e =
     (λ t v. let (b, c, d, parts, one, two, three, is) = four_sound (a - 0xC0) more n rest v in (a ∷ b ∷ c ∷ d ∷ [], ap (λ r. a ∷ r) parts, (grind (arith, nat_tests), grind (arith, nat_tests), one, two, three, is)))
     (λ t v. none_some n rest v)))
 
-number_whole : IsWhole IsCompressed number_in
-unfolding number_in
+number_whole : IsWhole IsCompressed compressed_in
+unfolding compressed_in
 number_whole [] n rest h = absurd h
 number_whole (a ∷ []) n rest (low, is) = rw (lt-ltb a 0x80 low, is) refl
 number_whole (a ∷ b ∷ []) n rest (low, high, byte, is) =
@@ -147,8 +148,8 @@ type_sound (a ∷ more) of rest e =
     (λ t u. one_byte IsSigType a 0x0E types.Str of more rest (eqb-eq a 0x0E t) u refl)
     (λ _ u. chosen (a == 0x1C) (Some (types.Object, more)) _ (Some (of, rest)) u
     (λ t v. one_byte IsSigType a 0x1C types.Object of more rest (eqb-eq a 0x1C t) v refl)
-    (λ _ v. chosen (a == 0x12) (made types.Class (number_in more)) _ (Some (of, rest)) v
-    (λ t w. behind_sound IsCompressed IsSigType number_in types.Class 0x12 a more of rest number_sound (λ s x h. (s, refl, h)) t w)
+    (λ _ v. chosen (a == 0x12) (made types.Class (compressed_in more)) _ (Some (of, rest)) v
+    (λ t w. behind_sound IsCompressed IsSigType compressed_in types.Class 0x12 a more of rest number_sound (λ s x h. (s, refl, h)) t w)
     (λ _ w. chosen (a == 0x1D) (made types.Array (element_in more)) None (Some (of, rest)) w
     (λ t z. behind_sound IsElementByte IsSigType element_in types.Array 0x1D a more of rest element_sound array_spelled t z)
     (λ _ z. none_some of rest z)))))
@@ -168,14 +169,14 @@ type_whole s (types.Array e) rest (is, element) =
 abbrev pub IsArray : List ℕ → ℕ → Type 0
 IsArray bytes e = IsSigType bytes (types.Array e)
 
-array_sound : IsSound IsArray array_in
+array_sound : IsSound IsArray array_type_in
 array_sound [] e rest told = none_some e rest told
 array_sound (a ∷ more) e rest told =
     chosen (a == 0x1D) (element_in more) None (Some (e, rest)) told
     (λ t s. let (spelled, parts, h) = element_sound more e rest s in (0x1D ∷ spelled, ap (λ b. b ∷ more) (eqb-eq a 0x1D t) ∙ ap (λ r. 0x1D ∷ r) parts, array_spelled spelled e h))
     (λ t s. none_some e rest s)
 
-array_whole : IsWhole IsArray array_in
+array_whole : IsWhole IsArray array_type_in
 array_whole s e rest (is, element) =
     rw (ap (λ (x : List ℕ). x ++ rest) is, element_whole (e ∷ []) e rest (refl, element)) refl
 
@@ -186,14 +187,14 @@ pair_sound SpellsX SpellsY bytes more rest x y (s, first, h) (t, second, k) =
 
 row_sound : (flags : ℕ) (bytes more rest : List ℕ) (field : FieldToken) → Begins IsCompressed bytes flags more → ◌≡◌ {A = Found FieldToken} (row_in flags more) (Some (field, rest)) → Begins IsFieldToken bytes field rest
 row_sound flags bytes more rest field first e =
-    chosen (flags == 0x00) (made (token false) (number_in more)) _ (Some (field, rest)) e
+    chosen (flags == 0x00) (made (token false) (compressed_in more)) _ (Some (field, rest)) e
     (λ t s. flagged false (eqb-eq flags 0x00 t) s)
-    (λ _ s. chosen (flags == 0x10) (made (token true) (number_in more)) None (Some (field, rest)) s
+    (λ _ s. chosen (flags == 0x10) (made (token true) (compressed_in more)) None (Some (field, rest)) s
     (λ t u. flagged true (eqb-eq flags 0x10 t) u)
     (λ _ u. none_some field rest u))
   where
-    flagged : (b : Bool) → flags ≡ flags_of b → ◌≡◌ {A = Found FieldToken} (made (token b) (number_in more)) (Some (field, rest)) → Begins IsFieldToken bytes field rest
-    flagged b is s = made_of (token b) (number_in more) field rest s (λ row found same.
+    flagged : (b : Bool) → flags ≡ flags_of b → ◌≡◌ {A = Found FieldToken} (made (token b) (compressed_in more)) (Some (field, rest)) → Begins IsFieldToken bytes field rest
+    flagged b is s = made_of (token b) (compressed_in more) field rest s (λ row found same.
         let P : FieldToken → Type 0 = λ f. Begins IsFieldToken bytes f rest in
         let Q : ℕ → Type 0 = λ n. Begins (IsPair IsCompressed IsCompressed) bytes (n, row) rest in
         subst P same (subst Q is (pair_sound IsCompressed IsCompressed bytes more rest flags row first (number_sound more row rest found))))
@@ -201,9 +202,9 @@ row_sound flags bytes more rest field first e =
 field_sound : IsSound IsFieldToken field_in
 unfolding field_in
 field_sound bytes field rest e =
-    then_of (number_in bytes) row_in field rest e (λ flags more found told. row_sound flags bytes more rest field (number_sound bytes flags more found) told)
+    then_of (compressed_in bytes) row_in field rest e (λ flags more found told. row_sound flags bytes more rest field (number_sound bytes flags more found) told)
 
-row_whole : (b : Bool) (row : ℕ) (more rest : List ℕ) → ◌≡◌ {A = Found ℕ} (number_in more) (Some (row, rest)) → ◌≡◌ {A = Found FieldToken} (row_in (flags_of b) more) (Some (token b row, rest))
+row_whole : (b : Bool) (row : ℕ) (more rest : List ℕ) → ◌≡◌ {A = Found ℕ} (compressed_in more) (Some (row, rest)) → ◌≡◌ {A = Found FieldToken} (row_in (flags_of b) more) (Some (token b row, rest))
 row_whole false row more rest e = rw e refl
 row_whole true row more rest e = rw e refl
 
@@ -214,9 +215,9 @@ field_whole s field rest (front, back, is, first, second) =
 
 -- ---- fixups
 
-offset_sound : (more : List ℕ) (fixup : Fixup) (rest : List ℕ) → ◌≡◌ {A = Found Fixup} (then_in (number_in more) (λ offset behind. made (fixups.CheckFieldOffset offset) (field_in behind))) (Some (fixup, rest)) → Begins IsFixup (0x2B ∷ more) fixup rest
+offset_sound : (more : List ℕ) (fixup : Fixup) (rest : List ℕ) → ◌≡◌ {A = Found Fixup} (then_in (compressed_in more) (λ offset behind. made (fixups.CheckFieldOffset offset) (field_in behind))) (Some (fixup, rest)) → Begins IsFixup (0x2B ∷ more) fixup rest
 offset_sound more fixup rest e =
-    then_of (number_in more) (λ offset behind. made (fixups.CheckFieldOffset offset) (field_in behind)) fixup rest e (λ offset behind found told.
+    then_of (compressed_in more) (λ offset behind. made (fixups.CheckFieldOffset offset) (field_in behind)) fixup rest e (λ offset behind found told.
     made_of (fixups.CheckFieldOffset offset) (field_in behind) fixup rest told (λ field there same.
     let (s, parts, h) = pair_sound IsCompressed IsFieldToken more behind rest offset field (number_sound more offset behind found) (field_sound behind field rest there) in
     let P : Fixup → Type 0 = λ f. IsFixup (0x2B ∷ s) f in
@@ -225,22 +226,22 @@ offset_sound more fixup rest e =
 payload_sound : (kind : ℕ) (more : List ℕ) (fixup : Fixup) (rest : List ℕ) → ◌≡◌ {A = Found Fixup} (payload_in kind more) (Some (fixup, rest)) → Begins IsFixup (kind ∷ more) fixup rest
 unfolding payload_in
 payload_sound kind more fixup rest e =
-    chosen (kind == 0x14) (made fixups.MethodEntryDefToken (number_in more)) _ (Some (fixup, rest)) e
-    (λ t s. behind_sound IsCompressed IsFixup number_in fixups.MethodEntryDefToken 0x14 kind more fixup rest number_sound (λ s x h. (s, refl, h)) t s)
-    (λ _ e1. chosen (kind == 0x15) (made fixups.MethodEntryRefToken (number_in more)) _ (Some (fixup, rest)) e1
-    (λ t s. behind_sound IsCompressed IsFixup number_in fixups.MethodEntryRefToken 0x15 kind more fixup rest number_sound (λ s x h. (s, refl, h)) t s)
-    (λ _ e2. chosen (kind == 0x17) (made fixups.VirtualEntryDefToken (number_in more)) _ (Some (fixup, rest)) e2
-    (λ t s. behind_sound IsCompressed IsFixup number_in fixups.VirtualEntryDefToken 0x17 kind more fixup rest number_sound (λ s x h. (s, refl, h)) t s)
-    (λ _ e3. chosen (kind == 0x18) (made fixups.VirtualEntryRefToken (number_in more)) _ (Some (fixup, rest)) e3
-    (λ t s. behind_sound IsCompressed IsFixup number_in fixups.VirtualEntryRefToken 0x18 kind more fixup rest number_sound (λ s x h. (s, refl, h)) t s)
-    (λ _ e4. chosen (kind == 0x1A) (made fixups.Helper (number_in more)) _ (Some (fixup, rest)) e4
-    (λ t s. behind_sound IsCompressed IsFixup number_in fixups.Helper 0x1A kind more fixup rest number_sound (λ s x h. (s, refl, h)) t s)
-    (λ _ e5. chosen (kind == 0x1B) (made fixups.StringHandle (number_in more)) _ (Some (fixup, rest)) e5
-    (λ t s. behind_sound IsCompressed IsFixup number_in fixups.StringHandle 0x1B kind more fixup rest number_sound (λ s x h. (s, refl, h)) t s)
+    chosen (kind == 0x14) (made fixups.MethodEntryDefToken (compressed_in more)) _ (Some (fixup, rest)) e
+    (λ t s. behind_sound IsCompressed IsFixup compressed_in fixups.MethodEntryDefToken 0x14 kind more fixup rest number_sound (λ s x h. (s, refl, h)) t s)
+    (λ _ e1. chosen (kind == 0x15) (made fixups.MethodEntryRefToken (compressed_in more)) _ (Some (fixup, rest)) e1
+    (λ t s. behind_sound IsCompressed IsFixup compressed_in fixups.MethodEntryRefToken 0x15 kind more fixup rest number_sound (λ s x h. (s, refl, h)) t s)
+    (λ _ e2. chosen (kind == 0x17) (made fixups.VirtualEntryDefToken (compressed_in more)) _ (Some (fixup, rest)) e2
+    (λ t s. behind_sound IsCompressed IsFixup compressed_in fixups.VirtualEntryDefToken 0x17 kind more fixup rest number_sound (λ s x h. (s, refl, h)) t s)
+    (λ _ e3. chosen (kind == 0x18) (made fixups.VirtualEntryRefToken (compressed_in more)) _ (Some (fixup, rest)) e3
+    (λ t s. behind_sound IsCompressed IsFixup compressed_in fixups.VirtualEntryRefToken 0x18 kind more fixup rest number_sound (λ s x h. (s, refl, h)) t s)
+    (λ _ e4. chosen (kind == 0x1A) (made fixups.Helper (compressed_in more)) _ (Some (fixup, rest)) e4
+    (λ t s. behind_sound IsCompressed IsFixup compressed_in fixups.Helper 0x1A kind more fixup rest number_sound (λ s x h. (s, refl, h)) t s)
+    (λ _ e5. chosen (kind == 0x1B) (made fixups.StringHandle (compressed_in more)) _ (Some (fixup, rest)) e5
+    (λ t s. behind_sound IsCompressed IsFixup compressed_in fixups.StringHandle 0x1B kind more fixup rest number_sound (λ s x h. (s, refl, h)) t s)
     (λ _ e6. chosen (kind == 0x1C) (made fixups.NewObject (type_in more)) _ (Some (fixup, rest)) e6
     (λ t s. behind_sound IsSigType IsFixup type_in fixups.NewObject 0x1C kind more fixup rest type_sound (λ s x h. (s, refl, h)) t s)
-    (λ _ e7. chosen (kind == 0x1D) (made fixups.NewArray (array_in more)) _ (Some (fixup, rest)) e7
-    (λ t s. behind_sound IsArray IsFixup array_in fixups.NewArray 0x1D kind more fixup rest array_sound (λ s x h. (s, refl, h)) t s)
+    (λ _ e7. chosen (kind == 0x1D) (made fixups.NewArray (array_type_in more)) _ (Some (fixup, rest)) e7
+    (λ t s. behind_sound IsArray IsFixup array_type_in fixups.NewArray 0x1D kind more fixup rest array_sound (λ s x h. (s, refl, h)) t s)
     (λ _ e8. chosen (kind == 0x1E) (made fixups.IsInstanceOf (type_in more)) _ (Some (fixup, rest)) e8
     (λ t s. behind_sound IsSigType IsFixup type_in fixups.IsInstanceOf 0x1E kind more fixup rest type_sound (λ s x h. (s, refl, h)) t s)
     (λ _ e9. chosen (kind == 0x1F) (made fixups.ChkCast (type_in more)) _ (Some (fixup, rest)) e9
@@ -251,7 +252,7 @@ payload_sound kind more fixup rest e =
     (λ t s. behind_sound IsSigType IsFixup type_in fixups.FieldBaseOffset 0x26 kind more fixup rest type_sound (λ s x h. (s, refl, h)) t s)
     (λ _ e12. chosen (kind == 0x27) (made fixups.FieldOffset (field_in more)) _ (Some (fixup, rest)) e12
     (λ t s. behind_sound IsFieldToken IsFixup field_in fixups.FieldOffset 0x27 kind more fixup rest field_sound (λ s x h. (s, refl, h)) t s)
-    (λ _ e13. chosen (kind == 0x2B) (then_in (number_in more) (λ offset behind. made (fixups.CheckFieldOffset offset) (field_in behind))) None (Some (fixup, rest)) e13
+    (λ _ e13. chosen (kind == 0x2B) (then_in (compressed_in more) (λ offset behind. made (fixups.CheckFieldOffset offset) (field_in behind))) None (Some (fixup, rest)) e13
     (λ t s. let P : ℕ → Type 0 = λ k. Begins IsFixup (k ∷ more) fixup rest in subst P (sym (eqb-eq kind 0x2B t)) (offset_sound more fixup rest s))
     (λ _ s. none_some fixup rest s))))))))))))))
 
@@ -290,32 +291,61 @@ fixup_whole s (fixups.FieldOffset x) rest (more, is, h) =
 fixup_whole s (fixups.CheckFieldOffset offset field) rest (more, is, (front, back, parts, first, second)) =
     rw (ap (λ (t : List ℕ). t ++ rest) is, ap (λ (t : List ℕ). t ++ rest) parts, append_assoc, number_whole front offset (back ++ rest) first, field_whole back field rest second) refl
 
--- what begins at a place is what is computed
-pub fixup_at-found : (bytes : List ℕ) (at : ℕ) (fixup : Fixup) (next : ℕ) → BeginsAt IsFixup bytes at fixup next → fixup_at bytes at ≡ Some fixup
-unfolding fixup_at
-fixup_at-found bytes at fixup next (spelling, rest, parts, spelled, end) = rw (parts, fixup_whole spelling fixup rest spelled) refl
+-- ---- at a place
 
-none_found : (o : Found Fixup) → ((fixup : Fixup) (rest : List ℕ) → ◌≡◌ {A = Found Fixup} o (Some (fixup, rest)) → ⊥) → option_map (λ found. found.0) o ≡ None
-none_found None never = refl
-none_found (Some (fixup, rest)) never = absurd (never fixup rest refl)
+-- what is left from a place on
+length_left : (bytes : List ℕ) (at : ℕ) → length (drop at bytes) ≡ length bytes - at
+length_left bytes at = length-drop at bytes
+
+-- where a fixup begins it is the one that is computed, with the place after it
+pub next_at-found : (bytes : List ℕ) (at : ℕ) (fixup : Fixup) (next : ℕ) → BeginsAt IsFixup bytes at fixup next
+    → fixup_and_next_at bytes at ≡ Some (fixup, next)
+unfolding fixup_and_next_at
+next_at-found bytes at fixup next (spelling, rest, parts, (payload, is, spelled), end) =
+    let some : 1 ≤ length spelling = omega (arith, ap length is) in
+    let left : length bytes - at ≡ length spelling + length rest = sym (length_left bytes at) ∙ ap length parts ∙ length-append spelling rest in
+    let place : length bytes - length rest ≡ next = omega (arith, left, some, end) in
+    rw (parts, fixup_whole spelling fixup rest (payload, is, spelled), place) refl
+
+none_found : (o : Found Fixup) (n : ℕ) → ((fixup : Fixup) (rest : List ℕ) → ◌≡◌ {A = Found Fixup} o (Some (fixup, rest)) → ⊥)
+    → option_map (with_next n) o ≡ None
+none_found None n never = refl
+none_found (Some (fixup, rest)) n never = absurd (never fixup rest refl)
 
 -- and where none begins, none is computed
-pub fixup_at-none : (bytes : List ℕ) (at : ℕ) → ((fixup : Fixup) (next : ℕ) → BeginsAt IsFixup bytes at fixup next → ⊥) → fixup_at bytes at ≡ None
-unfolding fixup_at
-fixup_at-none bytes at never =
-    none_found (fixup_in (drop at bytes)) (λ fixup rest e.
+pub next_at-none : (bytes : List ℕ) (at : ℕ) → ((fixup : Fixup) (next : ℕ) → BeginsAt IsFixup bytes at fixup next → ⊥)
+    → fixup_and_next_at bytes at ≡ None
+unfolding fixup_and_next_at
+next_at-none bytes at never =
+    none_found (fixup_in (drop at bytes)) (length bytes) (λ fixup rest e.
     let (s, parts, h) = fixup_sound (drop at bytes) fixup rest e in never fixup (at + length s) (s, rest, parts, h, refl))
 
-found_is : (o : Found Fixup) (fixup : Fixup) → option_map (λ found. found.0) o ≡ Some fixup → (rest : List ℕ) × ◌≡◌ {A = Found Fixup} o (Some (fixup, rest))
-found_is None fixup e = absurd (let x : ⊥ = cc in x)
-found_is (Some (x, rest)) fixup e =
+-- so what is read by the relation is what is computed
+pub read_is : (bytes : List ℕ) (at : ℕ) (read : Option (Fixup × ℕ)) → IfSome read (λ found. BeginsAt IsFixup bytes at found.0 found.1)
+    → ((fixup : Fixup) (next : ℕ) → BeginsAt IsFixup bytes at fixup next → read ≡ Some (fixup, next)) → read ≡ fixup_and_next_at bytes at
+read_is bytes at None found only = sym (next_at-none bytes at (λ fixup next h. let e = only fixup next h in absurd (cc)))
+read_is bytes at (Some (fixup, next)) found only = sym (next_at-found bytes at fixup next found)
+
+pub fixup_at-found : (bytes : List ℕ) (at : ℕ) (fixup : Fixup) (next : ℕ) → BeginsAt IsFixup bytes at fixup next → fixup_at bytes at ≡ Some fixup
+unfolding fixup_at
+fixup_at-found bytes at fixup next h = rw (next_at-found bytes at fixup next h) refl
+
+found_is : (o : Found Fixup) (n : ℕ) (fixup : Fixup) → option_map without_next (option_map (with_next n) o) ≡ Some fixup
+    → (rest : List ℕ) × ◌≡◌ {A = Found Fixup} o (Some (fixup, rest))
+found_is None n fixup e = absurd (let x : ⊥ = cc in x)
+found_is (Some (x, rest)) n fixup e =
     let same : x ≡ fixup = cc in
     (rest, let f : Fixup → Found Fixup = λ y. Some (y, rest) in ap f same)
 
 -- what is computed at a place has a spelling
 pub fixup_at-spelled : (bytes : List ℕ) (at : ℕ) (fixup : Fixup) → fixup_at bytes at ≡ Some fixup → (spelling : List ℕ) × IsFixup spelling fixup
-unfolding fixup_at
+unfolding fixup_at fixup_and_next_at
 fixup_at-spelled bytes at fixup e =
-    let (rest, is) = found_is (fixup_in (drop at bytes)) fixup e in
+    let (rest, is) = found_is (fixup_in (drop at bytes)) (length bytes) fixup e in
     let (s, parts, h) = fixup_sound (drop at bytes) fixup rest is in
     (s, h)
+
+-- the fixup of what was read
+pub fixup_at-read : (bytes : List ℕ) (at : ℕ) (read : Option (Fixup × ℕ)) → read ≡ fixup_and_next_at bytes at → option_map without_next read ≡ fixup_at bytes at
+unfolding fixup_at
+fixup_at-read bytes at read e = ap (option_map without_next) e
