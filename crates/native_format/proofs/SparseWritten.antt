@@ -60,7 +60,7 @@ first_other (x ∷ es) e i count h are other =
 
 -- ---- the index
 
-length-index : (at : ℕ) (bs : List (List ℕ)) → length (index_bytes at bs) ≡ 4 * length bs
+pub length-index : (at : ℕ) (bs : List (List ℕ)) → length (index_bytes at bs) ≡ 4 * length bs
 unfolding index_bytes
 length-index at [] = refl
 length-index at (b ∷ bs) = length-append (little_bytes 4 at) (index_bytes (at + length b) bs) ∙ rw (length-bytes_low_first 0 4 at, length-index (at + length b) bs) (omega arith)

@@ -4,3 +4,4 @@ pub mod NibbleSteps
 pub mod Sparse
 pub mod SparseBytes
 pub mod SparseSteps
+pub mod SparseLengths

@@ -23,13 +23,7 @@ IsShort (Some n) = n < 2 ^ 24
 abbrev pub contents : List (Option (Bor (List ℕ))) → List (Option (List ℕ))
 contents slots = map option_copied slots
 
--- a node's length and its own number, by the lengths of the trees below
-abbrev pub length_of_node : Option ℕ → Option ℕ → Option ℕ
-length_of_node None None = None
-length_of_node (Some low) None = Some (1 + low)
-length_of_node None (Some high) = Some (1 + high)
-length_of_node (Some low) (Some high) = Some (length (short_uint (fork_number low)) + (low + high))
-
+-- a node's own bytes, by the lengths of the trees below
 abbrev pub head_of_node : Option ℕ → Option ℕ → List ℕ
 head_of_node None None = []
 head_of_node (Some low) None = short_uint 1

@@ -5,36 +5,16 @@ ghost use Rattle.std.specs.Option.{option_copied, option_map};
 ghost use Rattle.native_format.specs.Uint.{short_uint};
 ghost use Rattle.native_format.specs.Sparse.{weights};
 ghost use Rattle.native_format.specs.SparseBytes.{AreElements, HoldsElements, block_bytes, blocks, content_of, fork_number, index_bytes, joined, slots_from, sparse_bytes, tree};
-ghost use Rattle.native_format.specs.SparseSteps.{AreSlots, SameFrom, IsSmall, IsShort, contents, head_of_node, length_of_node};
+ghost use Rattle.native_format.specs.SparseLengths.{fork_len, node_len};
+ghost use Rattle.native_format.specs.SparseSteps.{AreSlots, SameFrom, IsSmall, IsShort, contents, head_of_node};
 
-use crate::sparse::Element;
-use crate::uint::write_uint;
+use crate::sparse::{Element, WEIGHTS};
+use crate::uint::{uint_len, write_uint};
 use rtr_bytes::NoMemory;
 use std::alloc::Global;
 
 /// The content of the element of one index, where it has one.
 type Slot<'a> = Option<&'a [u8]>;
-
-/// The weights of the bits of an element's number in its block, from the root of the tree down.
-const WEIGHTS: [usize; 4] = [8, 4, 2, 1];
-
-/// How many bytes the shortest spelling of a native integer has.
-#[tactic(auto, unfolding(crate::specs::Uint::short_uint))]
-fn short_size(value: u32) -> u32
-    ensures { result ≡ length (short_uint value) }
-{
-    if value < 1 << 7 {
-        1
-    } else if value < 1 << 14 {
-        2
-    } else if value < 1 << 21 {
-        3
-    } else if value < 1 << 28 {
-        4
-    } else {
-        5
-    }
-}
 
 /// The number of a node with two children, of which the first has so many bytes.
 #[tactic(auto, unfolding(crate::specs::SparseBytes::fork_number))]
@@ -55,15 +35,16 @@ fn fork_of(low: u32) -> u32
 }
 
 /// How many bytes a node has with the trees below it, by how many each of them has.
+#[tactic(auto, unfolding(crate::specs::SparseLengths::fork_len))]
 fn node_len(low: Option<u32>, high: Option<u32>) -> Option<u32>
-    requires { IsShort (length_of_node low high) }
-    ensures { result ≡ length_of_node low high }
+    requires { IsShort (node_len low high) }
+    ensures { result ≡ node_len low high }
 {
     match (low, high) {
         (None, None) => None,
         (Some(low), None) => Some(1 + low),
         (None, Some(high)) => Some(1 + high),
-        (Some(low), Some(high)) => Some(short_size(fork_of(low)) + (low + high)),
+        (Some(low), Some(high)) => Some(uint_len(u64::from(fork_of(low))) as u32 + (low + high)),
     }
 }
 
@@ -93,7 +74,7 @@ fn content_len(slot: Slot<'_>) -> Option<u32>
 
 /// Appends the number of a node with the trees below it, by how many bytes each of them has.
 fn put_node(out: &mut Vec<u8>, low: Option<u32>, high: Option<u32>) -> Result<(), NoMemory>
-    requires { IsShort (length_of_node low high) }
+    requires { IsShort (node_len low high) }
     ensures { OnOk result (out.new.items ≡ out.old.items ++ head_of_node low high) }
 {
     match (low, high) {
