@@ -3,6 +3,7 @@
 //! Each format has one definition in `specs/`, and a reader and a writer that are proved against it.
 #![tactic(auto)]
 
+mod nibble_length;
 mod nibble_reader;
 mod nibble_writer;
 mod nibbles;
@@ -12,6 +13,7 @@ mod sparse_reader;
 mod sparse_writer;
 mod uint;
 
+pub use nibble_length::nibbles_len;
 pub use nibble_reader::read_nibbles;
 pub use nibble_writer::{fewest_groups, write_nibbles};
 pub use nibbles::{ListRefusal, SlotRef};

@@ -1,8 +1,8 @@
 use Rattle.std.proofs.Common.{◌++◌, get_or, refl}
 use Rattle.std.specs.List.{flat_map}
-use Rattle.native_format.specs.Nibbles.{at_slot, groups, numbers_behind}
+use Rattle.native_format.specs.Nibbles.{at_slot, groups, numbers_after_slot}
 use Rattle.native_format.proofs.SlotLaws.{in_order, put_one, put_last}
-use Rattle.native_format.proofs.nibble_writer.put_behind.Goals as goal
+use Rattle.native_format.proofs.nibble_writer.put_others.Goals as goal
 
 pub put_next-requires : goal.put_next-requires
 put_next-requires c =
@@ -11,7 +11,7 @@ put_next-requires c =
 pub loop-slot-preserved : goal.loop-slot-preserved
 loop-slot-preserved c =
     let slot = get_or c.args.others.now c.loop-slot.slot-index (at_slot 0 0) in
-    let all = c.args.out.now ++ flat_map groups (numbers_behind c.args.first c.args.others.now) in
+    let all = c.args.out.now ++ flat_map groups (numbers_after_slot c.args.first c.args.others.now) in
     record {
       ascend = (in_order c.loop-slot.last c.args.others.now c.loop-slot.slot-index slot (at_slot 0 0) c.loop-slot-test.true refl c.loop-slot.invariant.ascend).1;
       put = put_one c.loop-slot.out c.put_next.new.out all c.loop-slot.last c.args.others.now c.loop-slot.slot-index slot (at_slot 0 0) c.loop-slot-test.true refl c.in_ok-put_next.ensures c.loop-slot.invariant.put;
@@ -19,5 +19,5 @@ loop-slot-preserved c =
 
 pub returns : goal.returns
 returns c =
-    let all = c.args.out.now ++ flat_map groups (numbers_behind c.args.first c.args.others.now) in
+    let all = c.args.out.now ++ flat_map groups (numbers_after_slot c.args.first c.args.others.now) in
     put_last c.loop-slot.out c.put_number.new.self c.put_number-2.new.self all c.loop-slot.last c.args.others.now c.loop-slot.slot-index c.loop-slot-test.false c.in_ok-put_number.ensures c.in_ok-put_number-2.ensures c.loop-slot.invariant.put
