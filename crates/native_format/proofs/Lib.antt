@@ -3,6 +3,7 @@ pub mod NibbleLaws
 pub mod SlotLaws
 pub mod SparseLaws
 pub mod SparseLengthLaws
+pub mod MeasureLaws
 pub mod TreeLaws
 pub mod SparseWritten
 pub mod WriterParts

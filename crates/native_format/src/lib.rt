@@ -3,6 +3,7 @@
 //! Each format has one definition in `specs/`, and a reader and a writer that are proved against it.
 #![tactic(auto)]
 
+mod laws;
 mod nibble_length;
 mod nibble_reader;
 mod nibble_writer;
@@ -13,6 +14,7 @@ mod sparse_reader;
 mod sparse_writer;
 mod uint;
 
+pub use laws::{lengths_decide_places, written_is_read};
 pub use nibble_length::nibbles_len;
 pub use nibble_reader::read_nibbles;
 pub use nibble_writer::{fewest_groups, write_nibbles};

@@ -1,6 +1,6 @@
 use Rattle.std.proofs.Common.{ap, ◌∙◌, arith}
 use Rattle.native_format.specs.SparseLengths.{Measure, block_len, capped}
-use Rattle.native_format.proofs.SparseLengthLaws.{before_later}
+use Rattle.native_format.proofs.MeasureLaws.{before_later}
 use Rattle.native_format.proofs.sparse_length.SparseLength.before_block.Goals as goal
 
 pub returns : goal.returns

@@ -1,7 +1,7 @@
 use Rattle.std.proofs.Common.{◌≡◌, ap, ◌∙◌, sym, arith}
 use Rattle.native_format.specs.Sparse.{blocks_of}
 use Rattle.native_format.specs.SparseLengths.{Measure, blocks_len, capped, front_len}
-use Rattle.native_format.proofs.SparseLengthLaws.{measured, no_blocks}
+use Rattle.native_format.proofs.MeasureLaws.{measured, no_blocks}
 use Rattle.native_format.proofs.sparse_length.SparseLength.bytes.Goals as goal
 use Rattle.native_format.proofs.sparse_length.SparseLength.bytes.Goals.{then-self-blocks, else-self-blocks}
 

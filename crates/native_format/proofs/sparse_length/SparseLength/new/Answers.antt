@@ -1,5 +1,6 @@
 use Rattle.std.proofs.Common.{refl}
-use Rattle.native_format.proofs.SparseLengthLaws.{measure_none, no_slots, none_at_all}
+use Rattle.native_format.proofs.MeasureLaws.{measure_none}
+use Rattle.native_format.proofs.SparseLengthLaws.{no_slots, none_at_all}
 use Rattle.native_format.proofs.sparse_length.SparseLength.new.Goals as goal
 
 pub returns-clause-measures : goal.returns-clause-measures

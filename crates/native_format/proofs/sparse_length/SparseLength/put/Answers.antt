@@ -1,6 +1,6 @@
 use Rattle.std.proofs.Common.{ap, refl, sym, ◌∙◌, set, Some, ◌%◌}
 use Rattle.native_format.specs.SparseLengths.{Measure}
-use Rattle.native_format.proofs.SparseLengthLaws.{measure_put}
+use Rattle.native_format.proofs.MeasureLaws.{measure_put}
 use Rattle.native_format.proofs.sparse_length.SparseLength.put.Goals as goal
 
 pub returns-clause-measures : goal.returns-clause-measures

@@ -1,6 +1,7 @@
 use Rattle.std.proofs.Common.{ap, refl, arith, ◌/◌}
 use Rattle.native_format.specs.SparseLengths.{Measure}
-use Rattle.native_format.proofs.SparseLengthLaws.{measure_later, no_slots, none_at_all}
+use Rattle.native_format.proofs.MeasureLaws.{measure_later}
+use Rattle.native_format.proofs.SparseLengthLaws.{no_slots, none_at_all}
 use Rattle.native_format.proofs.sparse_length.SparseLength.start.Goals as goal
 
 pub returns-clause-measures : goal.returns-clause-measures
