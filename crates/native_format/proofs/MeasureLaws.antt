@@ -70,44 +70,43 @@ measure_later old new count lengths index h order count-is next-is here later be
     wider [] limit more h le = tt
     wider (e ∷ es) limit more h le = (omega (arith, h.0), wider es limit more h.1 le)
 
-pub measure_put : (old new : Measure) (count : ℕ) (lengths : Lengths) (index len : ℕ) → Measures old count lengths → old.next ≤ index → old.block ≡ index / 16 → len < 2 ^ 64
+pub measure_put : (old new : Measure) (count : ℕ) (lengths : Lengths) (index len content : ℕ) → Measures old count lengths → old.next ≤ index → old.block ≡ index / 16 → len ≡ capped content
     → new.count ≡ old.count → new.next ≡ index + 1 → new.block ≡ old.block → new.before ≡ old.before → new.slots ≡ set old.slots (index % 16) (Some len)
-    → Measures new count (lengths ++ (index, len) ∷ [])
-measure_put old new count lengths index len h order here small count-is next-is block-is before-is slots-is = record {
+    → Measures new count (lengths ++ (index, content) ∷ [])
+measure_put old new count lengths index len content h order here capped_is count-is next-is block-is before-is slots-is = record {
   count_is = count-is ∙ h.count_is;
-  none_later = subst (λ (n : ℕ). AreBelow n (lengths ++ (index, len) ∷ [])) (sym next-is) (below-append lengths old.next index len h.none_later order);
-  before_is = before-is ∙ h.before_is ∙ ap capped (same_blocks lengths (lengths ++ (index, len) ∷ []) old.block (λ i lt. sym (other_at lengths index len i (λ same. omega (arith, here, same))))) ∙ ap (λ (k : ℕ). capped (blocks_len (lengths ++ (index, len) ∷ []) k)) (sym block-is);
-  slots_are = slots-is ∙ ap (λ (s : Lens). set s (index % 16) (Some len)) h.slots_are ∙ all_slots ∙ ap (λ (k : ℕ). map (option_map capped) (block_at (lengths ++ (index, len) ∷ []) k)) (sym block-is);
+  none_later = subst (λ (n : ℕ). AreBelow n (lengths ++ (index, content) ∷ [])) (sym next-is) (below-append lengths old.next index content h.none_later order);
+  before_is = before-is ∙ h.before_is ∙ ap capped (same_blocks lengths (lengths ++ (index, content) ∷ []) old.block (λ i lt. sym (other_at lengths index content i (λ same. omega (arith, here, same))))) ∙ ap (λ (k : ℕ). capped (blocks_len (lengths ++ (index, content) ∷ []) k)) (sym block-is);
+  slots_are = slots-is ∙ ap (λ (s : Lens). set s (index % 16) (Some len)) h.slots_are ∙ all_slots ∙ ap (λ (k : ℕ). map (option_map capped) (block_at (lengths ++ (index, content) ∷ []) k)) (sym block-is);
 }
   where
     f : Option ℕ → Option ℕ
     f = option_map capped
     more : Lengths
-    more = lengths ++ (index, len) ∷ []
-    all_slots : set (map (option_map capped) (block_at lengths old.block)) (index % 16) (Some len) ≡ map (option_map capped) (block_at (lengths ++ (index, len) ∷ []) old.block)
+    more = lengths ++ (index, content) ∷ []
+    all_slots : set (map (option_map capped) (block_at lengths old.block)) (index % 16) (Some len) ≡ map (option_map capped) (block_at (lengths ++ (index, content) ∷ []) old.block)
     all_slots =
         let k = old.block in
         let xs = map (option_map capped) (block_at lengths k) in
-        let ys = map (option_map capped) (block_at (lengths ++ (index, len) ∷ []) k) in
+        let ys = map (option_map capped) (block_at (lengths ++ (index, content) ∷ []) k) in
         let wide : length xs ≡ 16 = length-map (block_at lengths k) (option_map capped) ∙ length-block lengths k in
-        let wide' : length ys ≡ 16 = length-map (block_at (lengths ++ (index, len) ∷ []) k) (option_map capped) ∙ length-block (lengths ++ (index, len) ∷ []) k in
+        let wide' : length ys ≡ 16 = length-map (block_at (lengths ++ (index, content) ∷ []) k) (option_map capped) ∙ length-block (lengths ++ (index, content) ∷ []) k in
         let at : 16 * k + index % 16 ≡ index = omega (arith, here) in
         ext_get_or None (set xs (index % 16) (Some len)) ys (length-set xs (index % 16) (Some len) ∙ wide ∙ sym wide')
         (λ i lt.
         let i_lt : i < 16 = omega (arith, length-set xs (index % 16) (Some len), wide) in
-        let right : get_or ys i None ≡ option_map capped (length_at (lengths ++ (index, len) ∷ []) (16 * k + i)) =
-        get_or-map (option_map capped) (block_at (lengths ++ (index, len) ∷ []) k) i None None (omega (arith, length-block (lengths ++ (index, len) ∷ []) k)) ∙ ap (option_map capped) (in_block (lengths ++ (index, len) ∷ []) k i i_lt) in
+        let right : get_or ys i None ≡ option_map capped (length_at (lengths ++ (index, content) ∷ []) (16 * k + i)) =
+        get_or-map (option_map capped) (block_at (lengths ++ (index, content) ∷ []) k) i None None (omega (arith, length-block (lengths ++ (index, content) ∷ []) k)) ∙ ap (option_map capped) (in_block (lengths ++ (index, content) ∷ []) k i i_lt) in
         elim (cases_eq i (index % 16)) [
           | inl same ↦
               let place : 16 * k + i ≡ index = omega (arith, at, same) in
-              let kept : capped len ≡ len = omega arith in
               let left : get_or (set xs (index % 16) (Some len)) i None ≡ Some len = ap (λ (n : ℕ). get_or (set xs (index % 16) (Some len)) n None) same ∙ get_or-set_same xs (index % 16) (Some len) None (omega (arith, wide)) in
-              left ∙ sym (right ∙ ap (λ (n : ℕ). option_map capped (length_at (lengths ++ (index, len) ∷ []) n)) place ∙ ap (option_map capped) (here_at lengths old.next index len h.none_later order) ∙ ap (λ (n : ℕ). Some n) kept)
+              left ∙ sym (right ∙ ap (λ (n : ℕ). option_map capped (length_at (lengths ++ (index, content) ∷ []) n)) place ∙ ap (option_map capped) (here_at lengths old.next index content h.none_later order) ∙ ap (λ (n : ℕ). Some n) (sym capped_is))
           | inr other ↦
               let apart : index ≡ 16 * k + i → ⊥ = λ e. other (omega (arith, at, e)) in
               get_or-set_other xs (index % 16) i (Some len) None other
               ∙ get_or-map (option_map capped) (block_at lengths k) i None None (omega (arith, length-block lengths k)) ∙ ap (option_map capped) (in_block lengths k i i_lt)
-              ∙ sym (right ∙ ap (option_map capped) (other_at lengths index len (16 * k + i) apart))
+              ∙ sym (right ∙ ap (option_map capped) (other_at lengths index content (16 * k + i) apart))
         ])
 
 -- the length of the whole array, by the bytes of its blocks

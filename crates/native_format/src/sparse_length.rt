@@ -102,13 +102,13 @@ impl SparseLength {
         }
     }
 
-    /// Adds the element of an index, which is below the count and above that of each element before, and whose content
-    /// has so many bytes.
+    /// Adds the element of an index, which is below the count and above that of each element before. Its content has so many
+    /// bytes, or more than `u64` counts where it is `u64::MAX`.
     pub fn add(&mut self, index: u32, len: u64)
         requires order { self.old.next ≤ index }
         requires below { index < self.old.count }
-        ensures measures { (count : ℕ) (lengths : Lengths) → Measures self.old count lengths
-            → Measures self.new count (lengths ++ (index, len) ∷ []) }
+        ensures measures { (count : ℕ) (lengths : Lengths) (content : ℕ) → len ≡ capped content → Measures self.old count lengths
+            → Measures self.new count (lengths ++ (index, content) ∷ []) }
         ensures next { self.new.next ≡ index + 1 }
     {
         if self.block < index / BLOCK_SIZE {
@@ -139,8 +139,8 @@ impl SparseLength {
         requires order { self.old.next ≤ index }
         requires below { index < self.old.count }
         requires here { self.old.block ≡ index / 16 }
-        ensures measures { (count : ℕ) (lengths : Lengths) → Measures self.old count lengths
-            → Measures self.new count (lengths ++ (index, len) ∷ []) }
+        ensures measures { (count : ℕ) (lengths : Lengths) (content : ℕ) → len ≡ capped content → Measures self.old count lengths
+            → Measures self.new count (lengths ++ (index, content) ∷ []) }
         ensures next { self.new.next ≡ index + 1 }
     {
         self.slots[(index % BLOCK_SIZE) as usize] = Some(len);

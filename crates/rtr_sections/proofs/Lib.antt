@@ -18,8 +18,7 @@ pub mod EntriesFound
 pub mod EntriesLinked
 pub mod EntriesBack
 pub mod Back
-pub mod ArrayBounds
-pub mod Bounds
+pub mod Lengths
 pub mod Carried
 pub mod Spellable
 pub mod PutLemmas

@@ -7,7 +7,7 @@ use Rattle.rtr_sections.specs.declared.image.Image.{Image}
 use Rattle.rtr_sections.specs.declared.imports.ImportSection.{ImportSection}
 use Rattle.rtr_sections.specs.declared.written.Places.{Places}
 use Rattle.rtr_sections.specs.Header.{identifier}
-use Rattle.rtr_sections.specs.Parts.{Parts, cell_bytes, entry_bytes, function_bytes, header_bytes, import_bytes, parts_of, placed_imports, rtr_bytes, section, sections_at, signature_bytes_of, signature_rvas, thunks_of, unwind_bytes, words, written_imports, written_sections}
+use Rattle.rtr_sections.specs.Parts.{Parts, cell_bytes, entry_bytes, function_bytes, header_bytes, import_bytes, parts_of, placed_imports, part_bytes, section, sections_at, signature_bytes_of, signature_rvas, thunks_of, unwind_bytes, words, written_imports, written_sections}
 use Rattle.rtr_sections.specs.PartPlaces.{ArePlaces, ranged}
 use Rattle.rtr_sections.specs.Plan.{IsPlan, IsWellPlanned, SlotsAscend}
 use Rattle.rtr_sections.proofs.Stands.{end-is}
@@ -110,8 +110,8 @@ pub bytes_are : (plan : Image) (at : ℕ) (places : Places) (range : Span) (plac
     → placed ≡ placed_imports at places.arrays plan.imports → rvas ≡ words (signature_rvas places.signatures plan.slots) → signatures ≡ signature_bytes_of plan.slots → entries ≡ entry_bytes plan.entries
     → empty ≡ [] → one ≡ empty ++ (cell_bytes plan.slots ++ (header_bytes plan.header.flags (map (ranged places range) plan.header.sections) ++ flat_map import_bytes placed))
     → two ≡ one ++ (rvas ++ (function_bytes places.unwinds plan.functions ++ (unwind_bytes plan.functions ++ (identifier ++ (signatures ++ entries)))))
-    → two ≡ rtr_bytes plan at
-unfolding rtr_bytes
+    → two ≡ part_bytes plan at
+unfolding part_bytes
 bytes_are plan at places range placed rvas signatures entries empty one two p places_are start len placed_is rvas_are signatures_are entries_are none first second =
     let sections = sections_are plan at places range p places_are start len in
     let imports = imports_are plan at places placed places_are placed_is in

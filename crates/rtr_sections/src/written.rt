@@ -6,7 +6,7 @@ ghost use Rattle.rtr_bytes.specs.Checks.{first_fault};
 ghost use Rattle.rtr_sections.specs.Header.{identifier, native_at};
 ghost use Rattle.rtr_sections.specs.Image.{image_of, rtr_checks};
 ghost use Rattle.rtr_sections.specs.PartPlaces.{ArePlaces, ranged};
-ghost use Rattle.rtr_sections.specs.Parts.{cell_bytes, cell_spans, entry_bytes, function_bytes, header_bytes, header_span, import_bytes, length_bound, parts_of, rtr_bytes, section_bytes, signature_bytes_of, span_of_cells, unwind_bytes, written_imports};
+ghost use Rattle.rtr_sections.specs.Parts.{cell_bytes, cell_spans, entry_bytes, function_bytes, header_bytes, header_span, import_bytes, length_bound, parts_of, part_bytes, section_bytes, signature_bytes_of, span_of_cells, unwind_bytes, written_imports};
 ghost use Rattle.rtr_sections.specs.Plan.{IsPlan};
 ghost use Rattle.rtr_sections.specs.Written.{Carries, asked_of, back_image, shape_of};
 
@@ -206,17 +206,17 @@ fn cell_spans(alloc: Global, imports: &[ImportSection]) -> Result<Vec<Span>, NoM
 pub fn write_rtr(alloc: Global, plan: &Image, at: u32) -> Result<Written, NoMemory>
     requires plan { IsPlan plan.now at }
 
-    ensures bytes { IfOk result (λ w. w.bytes.items ≡ rtr_bytes plan.now at) }
+    ensures bytes { IfOk result (λ w. w.bytes.items ≡ part_bytes plan.now at) }
     ensures header { IfOk result (λ w. w.header ≡ header_span plan.now at) }
     ensures cells { IfOk result (λ w. w.cells.items ≡ cell_spans plan.now at) }
     ensures small { IfOk result (λ w. length w.bytes.items < 2 ^ 24) }
     ensures bounded { IfOk result (λ w. length w.bytes.items ≤ length_bound plan.now) }
 
     // The plan's places, and the sizes of the sections that the writer fills, aren't read.
-    ensures unread { IfOk result (λ w. (other : Image) → asked_of other ≡ asked_of plan.now → w.bytes.items ≡ rtr_bytes other at) }
+    ensures unread { IfOk result (λ w. (other : Image) → asked_of other ≡ asked_of plan.now → w.bytes.items ≡ part_bytes other at) }
     // Neither the length nor a chosen place rests on the slots' words, the functions' begins or the range of the thunks.
     ensures length_alone { IfOk result (λ w. (other : Image) → shape_of other ≡ shape_of plan.now
-        → length w.bytes.items ≡ length (rtr_bytes other at)) }
+        → length w.bytes.items ≡ length (part_bytes other at)) }
     ensures places_alone { IfOk result (λ w. (other : Image) → shape_of other ≡ shape_of plan.now
         → (parts_of other ≡ parts_of plan.now) × (w.header ≡ header_span other at) × (w.cells.items ≡ cell_spans other at)
         × (written_imports other at ≡ written_imports plan.now at)) }

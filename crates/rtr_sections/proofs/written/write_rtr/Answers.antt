@@ -2,7 +2,7 @@ use Rattle.std.proofs.Common.{◌≡◌, ◌+◌, ◌-◌, ℕ, List, length, ma
 use Rattle.rtr_sections.specs.declared.slots.Slot.{Slot}
 use Rattle.rtr_sections.specs.declared.entries.EntryPoint.{EntryPoint}
 use Rattle.rtr_sections.specs.declared.imports.ImportSection.{ImportSection}
-use Rattle.rtr_sections.specs.Parts.{cell_spans, entry_bytes, header_span, parts_of, placed_imports, rtr_bytes, signature_bytes_of, signature_rvas, span_of_cells, words}
+use Rattle.rtr_sections.specs.Parts.{cell_spans, entry_bytes, header_span, parts_of, placed_imports, part_bytes, signature_bytes_of, signature_rvas, span_of_cells, words}
 use Rattle.rtr_sections.proofs.Types.{FitsTypes}
 use Rattle.rtr_sections.proofs.Back.{image_back, well_formed}
 use Rattle.rtr_sections.proofs.Bounds.{bytes_bounded}
@@ -64,7 +64,7 @@ put_behind-requires c =
     rw c.as_slice-functions.ensures (omega (arith, fits_in c.args.plan.now c.args.at c.requires.plan, are_parts c.args.plan.now, header_place c.args.plan.now, c.of-places.ensures.unwinds, c.requires.plan.low))
 
 -- the bytes are the plan's
-whole : (c : goal.After-drop-signatures-3) → c.put_behind.new.out.items ≡ rtr_bytes c.args.plan.now c.args.at
+whole : (c : goal.After-drop-signatures-3) → c.put_behind.new.out.items ≡ part_bytes c.args.plan.now c.args.at
 whole c =
     let plan = c.args.plan.now in
     let parts = are_parts plan in
