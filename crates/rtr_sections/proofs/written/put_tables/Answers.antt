@@ -1,5 +1,5 @@
 use Rattle.rtr_sections.proofs.PutLemmas.{put_made, six_put}
-use Rattle.rtr_sections.proofs.written.put_behind.Goals as goal
+use Rattle.rtr_sections.proofs.written.put_tables.Goals as goal
 
 pub returns-clause-behind : goal.returns-clause-behind
 returns-clause-behind c =

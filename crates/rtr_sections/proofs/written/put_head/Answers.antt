@@ -1,6 +1,6 @@
 use Rattle.std.proofs.lemmas.Result.{IfOk-equal}
 use Rattle.rtr_sections.proofs.PutLemmas.{two_then}
-use Rattle.rtr_sections.proofs.written.put_front.Goals as goal
+use Rattle.rtr_sections.proofs.written.put_head.Goals as goal
 
 pub returns-clause-front : goal.returns-clause-front
 returns-clause-front c =

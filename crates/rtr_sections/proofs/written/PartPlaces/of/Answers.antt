@@ -3,7 +3,7 @@ use Rattle.rtr_sections.specs.declared.functions.Function.{Function}
 use Rattle.rtr_sections.specs.declared.imports.ImportSection.{ImportSection}
 use Rattle.rtr_sections.specs.declared.slots.Slot.{Slot}
 use Rattle.rtr_sections.specs.Parts.{parts_of}
-use Rattle.rtr_sections.proofs.written.Places.of.Goals as goal
+use Rattle.rtr_sections.proofs.written.PartPlaces.of.Goals as goal
 
 pub returns : goal.returns
 unfolding parts_of
