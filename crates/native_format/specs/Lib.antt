@@ -5,3 +5,4 @@ pub mod Sparse
 pub mod SparseBytes
 pub mod SparseSteps
 pub mod SparseLengths
+pub mod Laws

@@ -91,6 +91,7 @@ impl SparseLength {
     /// The length of an array of so many elements, of which none is there yet.
     pub fn new(count: u32) -> SparseLength
         ensures measures { Measures result count [] }
+        ensures count { result.count ≡ count }
         ensures next { result.next ≡ 0 }
     {
         SparseLength {
@@ -109,6 +110,7 @@ impl SparseLength {
         requires below { index < self.old.count }
         ensures measures { (count : ℕ) (lengths : Lengths) (content : ℕ) → len ≡ capped content → Measures self.old count lengths
             → Measures self.new count (lengths ++ (index, content) ∷ []) }
+        ensures count { self.new.count ≡ self.old.count }
         ensures next { self.new.next ≡ index + 1 }
     {
         if self.block < index / BLOCK_SIZE {
@@ -141,6 +143,7 @@ impl SparseLength {
         requires here { self.old.block ≡ index / 16 }
         ensures measures { (count : ℕ) (lengths : Lengths) (content : ℕ) → len ≡ capped content → Measures self.old count lengths
             → Measures self.new count (lengths ++ (index, content) ∷ []) }
+        ensures count { self.new.count ≡ self.old.count }
         ensures next { self.new.next ≡ index + 1 }
     {
         self.slots[(index % BLOCK_SIZE) as usize] = Some(len);

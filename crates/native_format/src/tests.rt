@@ -28,6 +28,7 @@ fn integers(rt: HostRuntime) -> Result<(), Fail> {
         write_uint(&mut out, value).ok().ok_or("memory")?;
         assert_eq!(rt; out.as_slice(), bytes);
         assert!(rt; bytes.len() < 10);
+        assert_eq!(rt; uint_len(u64::from(value)), bytes.len() as u64);
         assert_eq!(rt; read_uint(bytes, 0), Some((value, bytes.len() as u32)));
     }
     assert_eq!(rt; read_uint(&[0x01], 0), None);
@@ -51,6 +52,7 @@ fn slot_lists(rt: HostRuntime) -> Result<(), Fail> {
         .ok()
         .ok_or("memory")?;
     assert_eq!(rt; one.as_slice(), [0x01, 0x73, 0x00].as_slice());
+    assert_eq!(rt; nibbles_len(&[at(1, 0), at(1, 3), at(1, 10)]), 3);
     // Behind an entry's id.
     let entry = [0x1A, 0x01, 0x73, 0x00];
     let slots = read_nibbles(rt.alloc(), &entry, 1).ok().ok_or("a list")?;
@@ -182,4 +184,27 @@ fn sparse_arrays_written(rt: HostRuntime) -> Result<(), Fail> {
     let expected = [0x8C, 8, 0, 0, 0, 9, 0, 0, 0, 0x80, 2, 2, 2, 2, 0x08];
     assert_eq!(rt; bytes.as_slice(), expected.as_slice());
     Ok(())
+}
+
+#[test]
+fn lengths_of_sparse_arrays(rt: HostRuntime) {
+    let mut one = SparseLength::new(1);
+    assert_eq!(rt; one.bytes(), 6);
+    one.add(0, 1);
+    assert_eq!(rt; one.bytes(), 10);
+    // A node with both children.
+    let mut two = SparseLength::new(4);
+    two.add(0, 1);
+    two.add(3, 2);
+    assert_eq!(rt; two.bytes(), 13);
+    // Empty blocks before and after another.
+    let mut late = SparseLength::new(u32::MAX);
+    late.add(16, 1);
+    assert_eq!(rt; late.bytes(), 1_342_177_289);
+    // More than a number of 64 bits counts.
+    let mut long = SparseLength::new(2);
+    long.add(0, u64::MAX);
+    long.add(1, 1);
+    assert_eq!(rt; long.bytes(), u64::MAX);
+    assert_eq!(rt; SparseLength::new(0).bytes(), 1);
 }

@@ -22,6 +22,7 @@ use crate::length::written_len;
 use crate::pieces::{
     Signatures, placed_imports, put_cells, put_functions, put_imports, put_unwinds,
 };
+use native_format::written_is_read;
 use rtr_bytes::{NoMemory, Span};
 use std::alloc::Global;
 
@@ -227,6 +228,7 @@ pub fn write_rtr(alloc: Global, plan: &Image, at: u32) -> Result<Written, NoMemo
     ensures read_back { IfOk result (λ _. (file : List ℕ) (rows : ℕ) → Carries file plan.now at rows
         → image_of file ≡ back_image plan.now at (native_at file)) }
 {
+    written_is_read();
     let places = PartPlaces::of(plan, at);
     let signatures = Signatures::of(alloc, plan.slots.as_slice(), places.signatures)?;
     let entries = write_entries(alloc, plan.entries.as_slice())?;

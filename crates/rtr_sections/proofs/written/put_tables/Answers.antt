@@ -1,8 +1,8 @@
 use Rattle.rtr_sections.proofs.PutLemmas.{put_made, six_put}
 use Rattle.rtr_sections.proofs.written.put_tables.Goals as goal
 
-pub returns-clause-behind : goal.returns-clause-behind
-returns-clause-behind c =
+pub returns-clause-tables : goal.returns-clause-tables
+returns-clause-tables c =
     six_put c.args.out.now.items _ _ _ _ _ _ _ _ _ _ _ _
     (put_made c.args.out.now.items _ _ _ c.in_ok-extend_from_slice.ensures.items c.deref.ensures.value)
     c.in_ok-put_functions.ensures.functions c.in_ok-put_unwinds.ensures.unwinds c.in_ok-extend_from_slice-2.ensures.items

@@ -82,7 +82,7 @@ whole c =
     let signatures : c.in_ok-signatures.signatures.bytes.items ≡ signature_bytes_of plan.slots = c.in_ok-signatures.ensures.bytes ∙ ap (λ (t : List Slot). signature_bytes_of t) c.as_slice.ensures in
     let entries : c.deref-2.result.now ≡ entry_bytes plan.entries = c.deref-2.ensures.value ∙ c.in_ok-entries.ensures ∙ ap (λ (t : List EntryPoint). entry_bytes t) c.as_slice-2.ensures in
     bytes_are plan c.args.at c.of-places.result (record { start = c.of-places.result.signatures + c.len.result; len = c.len-2.result }) c.deref.result.now _ _ c.deref-2.result.now _ _ _
-    c.requires.plan.planned c.of-places.ensures start len placed rvas signatures entries c.new-bytes.ensures.items c.in_ok-put_head.ensures.head (rw c.as_slice-functions.ensures at c.in_ok-put_tables.ensures.tables)
+    c.requires.plan.planned c.of-places.ensures start len placed rvas signatures entries c.in_ok-bytes.ensures.items c.in_ok-put_head.ensures.head (rw c.as_slice-functions.ensures at c.in_ok-put_tables.ensures.tables)
 
 pub returns-clause-bytes : goal.returns-clause-bytes
 returns-clause-bytes c = whole c
@@ -123,11 +123,11 @@ fits c =
     let behind = c.in_ok-put_tables.ensures in
     let placed : c.deref.result.now ≡ placed_imports c.args.at c.of-places.result.arrays plan.imports = c.deref.ensures.value ∙ c.in_ok-imports.ensures.placed
     ∙ ap (λ (t : List ImportSection). placed_imports c.args.at c.of-places.result.arrays t) c.as_slice-3.ensures in
-    types_fit plan c.args.at c.args.at c.of-places.result.arrays c.deref.result.now c.requires.plan placed head.header_flags front.ranges (rw c.as_slice-3.ensures at c.in_ok-imports.ensures.sizes) front.import_flags
+    types_fit plan c.args.at c.args.at c.of-places.result.arrays c.deref.result.now c.requires.plan placed front.header_flags front.ranges (rw c.as_slice-3.ensures at c.in_ok-imports.ensures.sizes) front.import_flags
     front.words (rw c.as_slice-functions.ensures at behind.begins) (rw c.as_slice-functions.ensures at behind.lengths)
 
 pub returns-clause-well_formed : goal.returns-clause-well_formed
-returns-clause-well_formed c file rows carries = well_formed file c.args.plan.now c.args.at rows c.requires.plan (fits c) carries
+returns-clause-well_formed c file rows carries = well_formed c.written_is_read.ensures file c.args.plan.now c.args.at rows c.requires.plan (fits c) carries
 
 pub returns-clause-read_back : goal.returns-clause-read_back
-returns-clause-read_back c file rows carries = image_back file c.args.plan.now c.args.at rows c.requires.plan (fits c) carries
+returns-clause-read_back c file rows carries = image_back c.written_is_read.ensures file c.args.plan.now c.args.at rows c.requires.plan (fits c) carries
