@@ -11,7 +11,7 @@ use Rattle.std.proofs.lemmas.List.Concat.{length-flat_map}
 use Rattle.native_format.specs.declared.sparse.Element.{Element}
 use Rattle.native_format.specs.Uint.{short_uint}
 use Rattle.native_format.specs.Sparse.{blocks_of, weights}
-use Rattle.native_format.specs.SparseBytes.{block, block_bytes, blocks, content_of, fork_number, index_bytes, joined, number_in, slots_from, sparse_bytes, tree}
+use Rattle.native_format.specs.SparseBytes.{block, block_bytes, blocks, content_by_index, fork_number, index_bytes, joined, fork_in, slots_from, sparse_bytes, tree}
 use Rattle.native_format.specs.SparseLengths.{AreBelow, Lengths, Measure, Measures, block_at, block_len, blocks_len, capped, fork_len, front_len, length_at, length_of, lengths_from, lengths_of, node_len, sparse_len, tree_len}
 use Rattle.native_format.specs.SparseSteps.{AreSlots}
 use Rattle.native_format.proofs.SparseLengthLaws.{Lens, blocks_more, cap_block, empty_block, empty_blocks, in_block, length-block, none_at, none_blocks, past_block, same_block, same_blocks}
@@ -82,8 +82,10 @@ measure_put old new count lengths index len content h order here capped_is count
   where
     f : Option ℕ → Option ℕ
     f = option_map capped
+
     more : Lengths
     more = lengths ++ (index, content) ∷ []
+
     all_slots : set (map (option_map capped) (block_at lengths old.block)) (index % 16) (Some len) ≡ map (option_map capped) (block_at (lengths ++ (index, content) ∷ []) old.block)
     all_slots =
         let k = old.block in

@@ -13,7 +13,7 @@ use Rattle.std.proofs.lemmas.List.Concat.{length-flat_map}
 use Rattle.native_format.specs.declared.sparse.Element.{Element}
 use Rattle.native_format.specs.Uint.{short_uint}
 use Rattle.native_format.specs.Sparse.{blocks_of, weights}
-use Rattle.native_format.specs.SparseBytes.{block, block_bytes, blocks, content_of, fork_number, index_bytes, joined, number_in, slots_from, sparse_bytes, tree}
+use Rattle.native_format.specs.SparseBytes.{block, block_bytes, blocks, content_by_index, fork_number, index_bytes, joined, fork_in, slots_from, sparse_bytes, tree}
 use Rattle.native_format.specs.SparseLengths.{AreBelow, Lengths, Measure, Measures, block_at, block_len, blocks_len, capped, fork_len, front_len, length_at, length_of, lengths_from, lengths_of, node_len, sparse_len, tree_len}
 use Rattle.native_format.specs.SparseSteps.{AreSlots}
 use Rattle.native_format.proofs.UintLaws.{short_len, short_size, size_some}
@@ -48,29 +48,29 @@ is_five v g =
 
 pub fork_one : (low : ℕ) → low < 2 ^ 5 - 1 → fork_len low ≡ 1
 unfolding fork_len fork_number
-fork_one low h = rw (lt-ltb (number_in low 1) (2 ^ 7) (omega arith)) (is_one (number_in low 1) (omega arith))
+fork_one low h = rw (lt-ltb (fork_in low 1) (2 ^ 7) (omega arith)) (is_one (fork_in low 1) (omega arith))
 
 pub fork_two : (low : ℕ) → 2 ^ 5 - 1 ≤ low → low < 2 ^ 12 - 2 → fork_len low ≡ 2
 unfolding fork_len fork_number
 fork_two low g h =
-    rw (le-ltb (number_in low 1) (2 ^ 7) (omega arith), lt-ltb (number_in low 2) (2 ^ 14) (omega arith)) (is_two (number_in low 2) (omega arith) (omega arith))
+    rw (le-ltb (fork_in low 1) (2 ^ 7) (omega arith), lt-ltb (fork_in low 2) (2 ^ 14) (omega arith)) (is_two (fork_in low 2) (omega arith) (omega arith))
 
 pub fork_three : (low : ℕ) → 2 ^ 12 - 2 ≤ low → low < 2 ^ 19 - 3 → fork_len low ≡ 3
 unfolding fork_len fork_number
 fork_three low g h =
-    rw (le-ltb (number_in low 1) (2 ^ 7) (omega arith), le-ltb (number_in low 2) (2 ^ 14) (omega arith), lt-ltb (number_in low 3) (2 ^ 21) (omega arith))
-    (is_three (number_in low 3) (omega arith) (omega arith))
+    rw (le-ltb (fork_in low 1) (2 ^ 7) (omega arith), le-ltb (fork_in low 2) (2 ^ 14) (omega arith), lt-ltb (fork_in low 3) (2 ^ 21) (omega arith))
+    (is_three (fork_in low 3) (omega arith) (omega arith))
 
-last_number : (low : ℕ) → 2 ^ 19 - 3 ≤ low → fork_len low ≡ length (short_uint (number_in low 4))
+last_number : (low : ℕ) → 2 ^ 19 - 3 ≤ low → fork_len low ≡ length (short_uint (fork_in low 4))
 unfolding fork_len fork_number
 last_number low g =
-    rw (le-ltb (number_in low 1) (2 ^ 7) (omega arith), le-ltb (number_in low 2) (2 ^ 14) (omega arith), le-ltb (number_in low 3) (2 ^ 21) (omega arith)) refl
+    rw (le-ltb (fork_in low 1) (2 ^ 7) (omega arith), le-ltb (fork_in low 2) (2 ^ 14) (omega arith), le-ltb (fork_in low 3) (2 ^ 21) (omega arith)) refl
 
 pub fork_four : (low : ℕ) → 2 ^ 19 - 3 ≤ low → low < 2 ^ 26 - 4 → fork_len low ≡ 4
-fork_four low g h = last_number low g ∙ is_four (number_in low 4) (omega arith) (omega arith)
+fork_four low g h = last_number low g ∙ is_four (fork_in low 4) (omega arith) (omega arith)
 
 pub fork_five : (low : ℕ) → 2 ^ 26 - 4 ≤ low → fork_len low ≡ 5
-fork_five low g = last_number low (omega arith) ∙ is_five (number_in low 4) (omega arith)
+fork_five low g = last_number low (omega arith) ∙ is_five (fork_in low 4) (omega arith)
 
 -- ---- of a tree
 
@@ -194,6 +194,7 @@ wide_upper ws slots h wide =
     let p = wide_split ws (length slots) h wide in
     let half : length (upper_lens (get_or ws 0 0) slots) ≡ get_or ws 0 0 = ap length (take_rest slots (get_or ws 0 0)) ∙ omega (arith, p.0, length-drop (get_or ws 0 0) slots) in
     rw half p.1
+
 -- a tree without contents
 pub no_tree : (ws : List ℕ) (slots : Lens) → ((i : ℕ) → get_or slots i None ≡ None) → tree_len ws slots ≡ None
 unfolding tree_len
@@ -281,10 +282,10 @@ empty_blocks lengths limit k (suc n) h le =
 
 -- ---- the whole
 
-pub length_at-of : (es : List Element) (i : ℕ) → option_map length (content_of es i) ≡ length_at (lengths_of es) i
-unfolding content_of length_at
+pub length_at-of : (es : List Element) (i : ℕ) → option_map length (content_by_index es i) ≡ length_at (lengths_of es) i
+unfolding content_by_index length_at
 length_at-of [] i = refl
-length_at-of (e ∷ es) i = chosen (eqb e.index i) e.content (content_of es i) (length_at (lengths_of es) i) (length_at-of es i) where
+length_at-of (e ∷ es) i = chosen (eqb e.index i) e.content (content_by_index es i) (length_at (lengths_of es) i) (length_at-of es i) where
   chosen : (b : Bool) (content : List ℕ) (others : Option (List ℕ)) (lens : Option ℕ) → option_map length others ≡ lens
       → option_map length (cond b (Some content) others) ≡ cond b (Some (length content)) lens
   chosen true content others lens h = refl
@@ -294,12 +295,12 @@ pub slots_of : (es : List Element) (k : ℕ) → map (option_map length) (slots_
 unfolding slots_from lengths_from
 slots_of es k =
     let f : Option (List ℕ) → Option ℕ = option_map length in
-    let xs = map (content_of es) (range_with_len (16 * k) 16) in
+    let xs = map (content_by_index es) (range_with_len (16 * k) 16) in
     let ys = map (length_at (lengths_of es)) (range_with_len (16 * k) 16) in
-    let wide : length xs ≡ 16 = length-map-range_with_len (content_of es) (16 * k) 16 in
+    let wide : length xs ≡ 16 = length-map-range_with_len (content_by_index es) (16 * k) 16 in
     ext_get_or None (map f xs) ys (length-map xs f ∙ wide ∙ sym (length-map-range_with_len (length_at (lengths_of es)) (16 * k) 16))
     (λ i lt. let i_lt : i < 16 = omega (arith, length-map xs f, wide) in
-    get_or-map f xs i None None (omega (arith, wide)) ∙ ap f (get_or-map-range_with_len (content_of es) (16 * k) 16 i (16 * k + i) None i_lt refl)
+    get_or-map f xs i None None (omega (arith, wide)) ∙ ap f (get_or-map-range_with_len (content_by_index es) (16 * k) 16 i (16 * k + i) None i_lt refl)
     ∙ length_at-of es (16 * k + i) ∙ sym (get_or-map-range_with_len (length_at (lengths_of es)) (16 * k) 16 i (16 * k + i) None i_lt refl))
 
 pub length-index : (at : ℕ) (bs : List (List ℕ)) → length (index_bytes at bs) ≡ 4 * length bs

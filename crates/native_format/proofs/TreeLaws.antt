@@ -8,7 +8,7 @@ use Rattle.std.proofs.lemmas.Option.{none-some, same_Some}
 use Rattle.native_format.specs.declared.sparse.Step.TheVariants as steps
 use Rattle.native_format.specs.Uint.{short_uint, uint_at}
 use Rattle.native_format.specs.Sparse.{Answer, bit_of, step_of, step_at, onward, path, weights}
-use Rattle.native_format.specs.SparseBytes.{StandsAt, number_in, fork_number, node, tree, block_bytes}
+use Rattle.native_format.specs.SparseBytes.{StandsAt, fork_in, fork_number, node, tree, block_bytes}
 use Rattle.native_format.specs.SparseLengths.{child_at, fork_len, node_len, place_in, tree_len}
 use Rattle.native_format.specs.SparseSteps.{AreSlots}
 use Rattle.native_format.proofs.SparseLengthLaws.{Lens, tree_len_is}
@@ -39,20 +39,20 @@ is_four v g h =
     let b : 2 ^ 14 ≤ v = omega arith in
     rw (le-ltb v (2 ^ 7) a, le-ltb v (2 ^ 14) b, le-ltb v (2 ^ 21) g, lt-ltb v (2 ^ 28) h) refl
 
-fits_in : (low n : ℕ) → length (short_uint (number_in low n)) ≡ n → number_in low n ≡ 4 * (length (short_uint (number_in low n)) + low) + 3
+fits_in : (low n : ℕ) → length (short_uint (fork_in low n)) ≡ n → fork_in low n ≡ 4 * (length (short_uint (fork_in low n)) + low) + 3
 fits_in low n e = rw e refl
 
 -- the number of a node with both children says the distance from its start
 pub fork_is : (low : ℕ) → low < 2 ^ 24 → fork_number low ≡ 4 * (length (short_uint (fork_number low)) + low) + 3
 unfolding fork_number
 fork_is low h =
-    elim (cases_Bool (ltb (number_in low 1) (2 ^ 7))) [
-      | inl t ↦ rw t (fits_in low 1 (short_len (number_in low 1) ∙ is_one _ (ltb-true _ _ t)))
-      | inr one ↦ elim (cases_Bool (ltb (number_in low 2) (2 ^ 14))) [
-        | inl t ↦ rw (one, t) (fits_in low 2 (short_len (number_in low 2) ∙ is_two _ (omega (arith, ltb-false _ _ one)) (ltb-true _ _ t)))
-        | inr two ↦ elim (cases_Bool (ltb (number_in low 3) (2 ^ 21))) [
-          | inl t ↦ rw (one, two, t) (fits_in low 3 (short_len (number_in low 3) ∙ is_three _ (omega (arith, ltb-false _ _ two)) (ltb-true _ _ t)))
-          | inr three ↦ rw (one, two, three) (fits_in low 4 (short_len (number_in low 4) ∙ is_four (number_in low 4) (omega (arith, ltb-false _ _ three)) (omega arith)))
+    elim (cases_Bool (ltb (fork_in low 1) (2 ^ 7))) [
+      | inl t ↦ rw t (fits_in low 1 (short_len (fork_in low 1) ∙ is_one _ (ltb-true _ _ t)))
+      | inr one ↦ elim (cases_Bool (ltb (fork_in low 2) (2 ^ 14))) [
+        | inl t ↦ rw (one, t) (fits_in low 2 (short_len (fork_in low 2) ∙ is_two _ (omega (arith, ltb-false _ _ one)) (ltb-true _ _ t)))
+        | inr two ↦ elim (cases_Bool (ltb (fork_in low 3) (2 ^ 21))) [
+          | inl t ↦ rw (one, two, t) (fits_in low 3 (short_len (fork_in low 3) ∙ is_three _ (omega (arith, ltb-false _ _ two)) (ltb-true _ _ t)))
+          | inr three ↦ rw (one, two, three) (fits_in low 4 (short_len (fork_in low 4) ∙ is_four (fork_in low 4) (omega (arith, ltb-false _ _ three)) (omega arith)))
         ]
       ]
     ]
@@ -64,11 +64,11 @@ lower false m n p q = q
 pub fork_below : (low : ℕ) → low < 2 ^ 24 → fork_number low < 2 ^ 28
 unfolding fork_number
 fork_below low h =
-    let one : number_in low 1 < 2 ^ 28 = omega arith in
-    let two : number_in low 2 < 2 ^ 28 = omega arith in
-    let three : number_in low 3 < 2 ^ 28 = omega arith in
-    let four : number_in low 4 < 2 ^ 28 = omega arith in
-    lower (ltb (number_in low 1) (2 ^ 7)) _ _ one (lower (ltb (number_in low 2) (2 ^ 14)) _ _ two (lower (ltb (number_in low 3) (2 ^ 21)) _ _ three four))
+    let one : fork_in low 1 < 2 ^ 28 = omega arith in
+    let two : fork_in low 2 < 2 ^ 28 = omega arith in
+    let three : fork_in low 3 < 2 ^ 28 = omega arith in
+    let four : fork_in low 4 < 2 ^ 28 = omega arith in
+    lower (ltb (fork_in low 1) (2 ^ 7)) _ _ one (lower (ltb (fork_in low 2) (2 ^ 14)) _ _ two (lower (ltb (fork_in low 3) (2 ^ 21)) _ _ three four))
 
 -- ---- the slot that bits lead to
 
@@ -128,8 +128,7 @@ low_only low w l front behind b bit small = go b bit where
       let read : uint_at bytes (length front) ≡ Some (1, length front + length (short_uint 1)) = ap (λ (t : List ℕ). uint_at (front ++ t) (length front)) (append_assoc (short_uint 1) l behind) ∙ uint_written front (l ++ behind) 1 (omega arith) in
       let regrouped : (front ++ short_uint 1) ++ (l ++ behind) ≡ bytes = append_assoc front (short_uint 1) (l ++ behind) ∙ ap (λ (t : List ℕ). front ++ t) (sym (append_assoc (short_uint 1) l behind)) in
       let one : length (short_uint 1) ≡ 1 = short_len 1 in
-      let at : length front + length (short_uint 1) ≡ length front + 1 = omega (arith, one) in
-      (
+      let at : length front + length (short_uint 1) ≡ length front + 1 = omega (arith, one) in (
         subst (λ (n : ℕ). step_at bytes low w (length front) ≡ Ok (steps.Child n)) at (step_is bytes low w (length front) 1 _ false bit read),
         record { front = front ++ short_uint 1; behind = behind; place_is = omega (arith, one, length-append front (short_uint 1)); bytes_are = sym regrouped },
         omega (arith, length-append (short_uint 1) l, small),
@@ -148,8 +147,7 @@ high_only low w r front behind b bit small = go b bit where
       let read : uint_at bytes (length front) ≡ Some (6, length front + length (short_uint 6)) = ap (λ (t : List ℕ). uint_at (front ++ t) (length front)) (append_assoc (short_uint 6) r behind) ∙ uint_written front (r ++ behind) 6 (omega arith) in
       let regrouped : (front ++ short_uint 6) ++ (r ++ behind) ≡ bytes = append_assoc front (short_uint 6) (r ++ behind) ∙ ap (λ (t : List ℕ). front ++ t) (sym (append_assoc (short_uint 6) r behind)) in
       let one : length (short_uint 6) ≡ 1 = short_len 6 in
-      let inside : leb (length front + 1) (length bytes) ≡ true = le-leb _ _ (omega (arith, ap length regrouped, length-append (front ++ short_uint 6) (r ++ behind), length-append front (short_uint 6), one)) in
-      (
+      let inside : leb (length front + 1) (length bytes) ≡ true = le-leb _ _ (omega (arith, ap length regrouped, length-append (front ++ short_uint 6) (r ++ behind), length-append front (short_uint 6), one)) in (
         step_is bytes low w (length front) 6 _ true bit read ∙ rw inside refl,
         record { front = front ++ short_uint 6; behind = behind; place_is = omega (arith, length-append front (short_uint 6), one); bytes_are = sym regrouped },
         omega (arith, length-append (short_uint 6) r, small),
@@ -165,8 +163,7 @@ to_fork low w l r front behind v v-is false bit read low_small high_small =
     let odd : v % 2 ≡ 1 = omega (arith, v-is) in
     let step : step_at bytes low w (length front) ≡ Ok (steps.Child (length front + length node)) = step_is bytes low w (length front) v _ false bit read ∙ rw (eq-eqb _ _ odd) refl in
     let at : length front + length node ≡ length front + (length node + 0) = omega arith in
-    let regrouped : (front ++ node) ++ (l ++ (r ++ behind)) ≡ bytes = append_assoc front node (l ++ (r ++ behind)) ∙ ap (λ (t : List ℕ). front ++ (node ++ t)) (sym (append_assoc l r behind)) ∙ ap (λ (t : List ℕ). front ++ t) (sym (append_assoc node (l ++ r) behind)) in
-    (
+    let regrouped : (front ++ node) ++ (l ++ (r ++ behind)) ≡ bytes = append_assoc front node (l ++ (r ++ behind)) ∙ ap (λ (t : List ℕ). front ++ (node ++ t)) (sym (append_assoc l r behind)) ∙ ap (λ (t : List ℕ). front ++ t) (sym (append_assoc node (l ++ r) behind)) in (
       subst (λ (n : ℕ). step_at bytes low w (length front) ≡ Ok (steps.Child n)) at step,
       record { front = front ++ node; behind = r ++ behind; place_is = omega (arith, length-append front node); bytes_are = sym regrouped },
       low_small,

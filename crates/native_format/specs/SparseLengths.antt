@@ -5,7 +5,7 @@ use Rattle.std.specs.Option.{option_map}
 use Rattle.native_format.specs.declared.sparse.Element.{Element}
 use Rattle.native_format.specs.Uint.{short_uint}
 use Rattle.native_format.specs.Sparse.{Array, array_at, bit_of, blocks_of, element_of, weights}
-use Rattle.native_format.specs.SparseBytes.{StandsAt, content_of, fork_number}
+use Rattle.native_format.specs.SparseBytes.{StandsAt, content_by_index, fork_number}
 
 -- a number as u64 counts it, which stops at its last value
 abbrev pub capped : ℕ → ℕ
@@ -102,7 +102,7 @@ pub record HoldsPlaced (bytes : List ℕ) (count : ℕ) (elements : List Element
   pub is_there : array_at bytes 0 ≡ Some array
   pub found : (index : ℕ) → element_of array index ≡ Ok (content_place count (lengths_of elements) index)
   pub stands : (index place : ℕ) → content_place count (lengths_of elements) index ≡ Some place
-      → (content : List ℕ) × (content_of elements index ≡ Some content) × StandsAt bytes place content
+      → (content : List ℕ) × (content_by_index elements index ≡ Some content) × StandsAt bytes place content
 
 -- ---- an array's length, added up element by element
 

@@ -4,7 +4,7 @@ use Rattle.std.specs.Option.{option_copied}
 use denote.Ref.{Bor}
 use Rattle.native_format.specs.declared.sparse.Element.{Element}
 use Rattle.native_format.specs.Uint.{short_uint}
-use Rattle.native_format.specs.SparseBytes.{content_of, fork_number}
+use Rattle.native_format.specs.SparseBytes.{content_by_index, fork_number}
 
 -- as many slots as the weights tell apart
 abbrev pub AreSlots : List ℕ → ℕ → Type 0
@@ -32,4 +32,4 @@ head_of_node (Some low) (Some high) = short_uint (fork_number low)
 
 -- the contents are the same from an index on
 abbrev pub SameFrom : ℕ → List Element → List Element → Type 0
-SameFrom least before after = (index : ℕ) → least ≤ index → content_of after index ≡ content_of before index
+SameFrom least before after = (index : ℕ) → least ≤ index → content_by_index after index ≡ content_by_index before index

@@ -121,7 +121,7 @@ pub fn no_spelling_begins_another()
 pub fn shortest_spelling()
     ensures spells { (v : ℕ) → v < 2 ^ 32 → IsUint v (short_uint v) }
     ensures shortest { (v : ℕ) (s : List ℕ) → ((i : ℕ) → slice_index s i < 256) → IsUint v s → length (short_uint v) ≤ length s }
-    // It is read again behind whatever bytes, and whatever follows.
+    // It is read again after whatever bytes, and whatever follows.
     ensures read_back { (v : ℕ) (before rest : List ℕ) → v < 2 ^ 32
         → IsUintBetween (before ++ short_uint v ++ rest) (length before) v (length before + length (short_uint v)) }
 {}

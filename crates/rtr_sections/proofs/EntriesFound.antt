@@ -35,8 +35,8 @@ mapped true e o p h = refl
 mapped false e o p h = h
 
 content_is : (entries : Entries) (index : ℕ)
-    → elements.content_of (map element_of_entry entries) index ≡ option_map content (entry_of_index entries index)
-unfolding elements.content_of
+    → elements.content_by_index (map element_of_entry entries) index ≡ option_map content (entry_of_index entries index)
+unfolding elements.content_by_index
 content_is [] index = refl
 content_is (e ∷ es) index = mapped (eqb (e.row - 1) index) e (entry_of_index es index) _ (content_is es index)
 

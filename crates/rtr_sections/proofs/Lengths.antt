@@ -36,8 +36,8 @@ lengths_more entries i d e lt is =
     let one : List EntryPoint = e ∷ [] in
     let next : take (i + 1) entries ≡ take i entries ++ one = take_more entries i d lt ∙ ap (λ (x : EntryPoint). take i entries ++ x ∷ []) (sym is) in
     sym (
-      ap lengths next ∙ ap lengths_of (map-append element_of_entry (take i entries) one)
-          ∙ map-append length_of (map element_of_entry (take i entries)) (map element_of_entry one)
+    ap lengths next ∙ ap lengths_of (map-append element_of_entry (take i entries) one)
+    ∙ map-append length_of (map element_of_entry (take i entries)) (map element_of_entry one)
     )
 
 -- a row that comes next, and those after it

@@ -95,10 +95,10 @@ pub begins_with : (file : List ℕ) (place : ℕ) (piece : List ℕ) → take (l
 begins_with file place piece same = sym (take-append-drop (length piece) (drop place file)) ∙ ap (λ (t : List ℕ). t ++ drop (length piece) (drop place file)) same
 
 -- a number in bytes that stand at a place of a file
-pub number_in : (k x : ℕ) (file : List ℕ) (place : ℕ) (front behind piece : List ℕ) → piece ≡ front ++ (little_bytes k x ++ behind)
+pub number_stands : (k x : ℕ) (file : List ℕ) (place : ℕ) (front behind piece : List ℕ) → piece ≡ front ++ (little_bytes k x ++ behind)
     → place + length piece ≤ length file → take (length piece) (drop place file) ≡ piece → x < 256 ^ k
     → field_at k file (place + length front) ≡ Some x
-number_in k x file place front behind piece is inside same fits =
+number_stands k x file place front behind piece is inside same fits =
     let rest = drop (length piece) (drop place file) in
     let number = little_bytes k x in
     let whole : drop place file ≡ front ++ (number ++ (behind ++ rest)) =
