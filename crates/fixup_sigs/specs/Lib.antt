@@ -1,2 +1,3 @@
 pub mod Fixup
+pub mod Reading
 pub mod Shortest

@@ -22,7 +22,7 @@ pub fn shortest_fixup()
     // No other spelling of the fixup is shorter.
     ensures shortest { (bytes : List ℕ) (fixup : Fixup) → IsFixup bytes fixup
         → length (fixup_bytes fixup) ≤ length bytes }
-    // It is read again behind whatever bytes, and whatever follows.
+    // It is read again after whatever bytes, and whatever follows.
     ensures read_back { (fixup : Fixup) (before rest : List ℕ) → IsSpellable fixup
         → BeginsAt IsFixup (before ++ fixup_bytes fixup ++ rest) (length before) fixup
         (length before + length (fixup_bytes fixup)) }

@@ -9,6 +9,7 @@ mod element;
 mod fixup;
 mod kind;
 mod laws;
+mod length;
 mod reading;
 mod signature;
 mod spellable;

@@ -3,15 +3,16 @@
 ghost use Rattle.std.specs.Prelude.{◌≡◌, ◌≤◌, ◌<◌, ◌^◌, ℕ, Bool, Some, length, IfSome};
 ghost use Rattle.rtr_bytes.specs.Spelling.{BeginsAt};
 ghost use Rattle.fixup_sigs.specs.Fixup.{IsSigType, IsFieldToken, IsPayload, IsFixup, shape_of, flags_of};
+ghost use Rattle.fixup_sigs.specs.Reading.{fixup_and_next_at};
 ghost use Rattle.fixup_sigs.specs.Shortest.{IsSpellableType, IsSpellablePayload, IsSpellable};
 
 use crate::element::{BOOLEAN, CLASS, OBJECT, STRING, SZARRAY, U8};
 use crate::fixup::{FieldToken, Fixup, SigType};
 use crate::kind::{FIELD, MEMBER_REF};
-use crate::signature::{Payload, Shape, Signature, shape_behind};
+use crate::signature::{Payload, Shape, Signature, shape_after};
 use rtr_bytes::compressed_at;
 
-/// The fixup whose signature begins at a file offset, and the offset behind it. Longer spellings of its
+/// The fixup whose signature begins at a file offset, and the offset after it. Longer spellings of its
 /// numbers are read too. `None` exactly where the bytes there begin with no fixup. It takes no memory.
 pub fn read_fixup(bytes: &[u8], at: u32) -> Option<(Fixup, u32)>
     requires { length bytes.now ≤ 2 ^ 31 }
@@ -20,16 +21,29 @@ pub fn read_fixup(bytes: &[u8], at: u32) -> Option<(Fixup, u32)>
     // What is spelled there is read.
     ensures only { (fixup : Fixup) (next : ℕ) → BeginsAt IsFixup bytes.now at fixup next
         → result ≡ Some (fixup, next) }
+    // The same, as a function of the bytes.
+    ensures exact { result ≡ fixup_and_next_at bytes.now at }
     // It can be written again.
     ensures spellable { IfSome result (λ found. IsSpellable found.0) }
 {
+    fixup_from(bytes, at)
+}
+
+/// The fixup that begins at a file offset, and the offset after it.
+fn fixup_from(bytes: &[u8], at: u32) -> Option<(Fixup, u32)>
+    requires { length bytes.now ≤ 2 ^ 31 }
+    ensures found { IfSome result (λ found. BeginsAt IsFixup bytes.now at found.0 found.1) }
+    ensures only { (fixup : Fixup) (next : ℕ) → BeginsAt IsFixup bytes.now at fixup next
+        → result ≡ Some (fixup, next) }
+    ensures spellable { IfSome result (λ found. IsSpellable found.0) }
+{
     let kind = *bytes.get(at as usize)?;
-    let (payload, next) = payload_at(bytes, at + 1, shape_behind(kind)?)?;
+    let (payload, next) = payload_at(bytes, at + 1, shape_after(kind)?)?;
     let fixup = Signature { kind, payload }.fixup()?;
     Some((fixup, next))
 }
 
-/// The payload of a shape that begins at a file offset, and the offset behind it.
+/// The payload of a shape that begins at a file offset, and the offset after it.
 fn payload_at(bytes: &[u8], at: u32, shape: Shape) -> Option<(Payload, u32)>
     requires { length bytes.now ≤ 2 ^ 31 }
     ensures found { IfSome result (λ found. BeginsAt IsPayload bytes.now at found.0 found.1) }
@@ -58,7 +72,7 @@ fn payload_at(bytes: &[u8], at: u32, shape: Shape) -> Option<(Payload, u32)>
     }
 }
 
-/// The type that begins at a file offset, and the offset behind it.
+/// The type that begins at a file offset, and the offset after it.
 fn type_at(bytes: &[u8], at: u32) -> Option<(SigType, u32)>
     requires { length bytes.now ≤ 2 ^ 31 }
     ensures found { IfSome result (λ found. BeginsAt IsSigType bytes.now at found.0 found.1) }
@@ -82,7 +96,7 @@ fn type_at(bytes: &[u8], at: u32) -> Option<(SigType, u32)>
     }
 }
 
-/// The field's token that begins at a file offset, and the offset behind it.
+/// The field's token that begins at a file offset, and the offset after it.
 fn field_at(bytes: &[u8], at: u32) -> Option<(FieldToken, u32)>
     requires { length bytes.now ≤ 2 ^ 31 }
     ensures found { IfSome result (λ found. BeginsAt IsFieldToken bytes.now at found.0 found.1) }

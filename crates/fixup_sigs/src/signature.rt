@@ -10,7 +10,7 @@ use crate::kind::{
     STRING_HANDLE, VIRTUAL_ENTRY_DEF_TOKEN, VIRTUAL_ENTRY_REF_TOKEN,
 };
 
-/// What stands behind a kind's byte.
+/// What follows a kind's byte.
 #[derive(Clone, Copy)]
 pub enum Payload {
     /// A row, a number or an offset.
@@ -41,13 +41,13 @@ pub enum Shape {
 pub struct Signature {
     /// The byte of the kind.
     pub kind: u8,
-    /// What stands behind it.
+    /// What follows it.
     pub payload: Payload,
 }
 
-/// Which payload stands behind the byte of a kind. What it answers for other bytes is left open: no fixup has
+/// Which payload follows the byte of a kind. What it answers for other bytes is left open: no fixup has
 /// such a signature.
-pub fn shape_behind(kind: u8) -> Option<Shape>
+pub fn shape_after(kind: u8) -> Option<Shape>
     ensures { (fixup : Fixup) → (signature_of fixup).kind ≡ kind
         → result ≡ Some (shape_of (signature_of fixup).payload) }
 {

@@ -89,6 +89,7 @@ fn rows(rt: HostRuntime) -> Result<(), Fail> {
         let mut out = Vec::new(rt.alloc());
         assert!(rt; write_fixup(&mut out, &fixup).is_ok());
         assert_eq!(rt; out.as_slice(), spelling);
+        assert_eq!(rt; fixup.signature_len() as usize, spelling.len());
         assert_eq!(rt;
             read_fixup(spelling, 0),
             Some((fixup, spelling.len() as u32))

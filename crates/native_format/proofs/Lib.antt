@@ -2,6 +2,8 @@ pub mod UintLaws
 pub mod NibbleLaws
 pub mod SlotLaws
 pub mod SparseLaws
+pub mod SparseLengthLaws
+pub mod MeasureLaws
 pub mod TreeLaws
 pub mod SparseWritten
 pub mod WriterParts

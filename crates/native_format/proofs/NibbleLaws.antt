@@ -6,7 +6,7 @@ use Rattle.std.specs.Int.Digits.{digits_of, number_from_digits_after, AllBelowBa
 use Rattle.std.proofs.Math.Nat.{pow-suc, one-le-pow, le-mul_of_pos_right, mul-le-mul_left}
 use Rattle.std.proofs.lemmas.Bool.{eq-eqb, ne_eqb, lt-ltb, le-ltb, cases_lt}
 use Rattle.std.proofs.lemmas.List.{append-nil, length-append, length-map, map-append, drop_more, drop_all}
-use Rattle.std.proofs.lemmas.Int.Digits.{number_digits_of, all_below_base_digits_of, length-digits_of-le, digits_of_step}
+use Rattle.std.proofs.lemmas.Int.Digits.{number_digits_of, all_below_base_digits_of, length-digits_of-le, length-digits_of_step, digits_of_step}
 use Rattle.native_format.specs.Nibbles.{nibbles, numbers_after, numbers, groups, packed}
 use Rattle.native_format.specs.NibbleSteps.{IsLost, ReadsNumber, numbers_from}
 
@@ -248,3 +248,34 @@ marked_step v some = ap (map (λ d. 8 + d)) (digits_of_step 8 v (omega arith) so
 -- one piece put behind another
 pub both_put : (old mid new x y : List ℕ) → new ≡ mid ++ y → mid ≡ old ++ x → new ≡ old ++ (x ++ y)
 both_put old mid new x y p q = p ∙ ap (λ (l : List ℕ). l ++ y) q ∙ append_assoc old x y
+
+-- ---- how many
+
+-- a number below 8 has one group, and every other has one more than an eighth of it
+pub group_one : (v : ℕ) → v < 8 → length (groups v) ≡ 1
+unfolding groups
+group_one v h = let none : v / 8 ≡ 0 = omega arith in rw none refl
+
+pub group_more : (v : ℕ) → 8 ≤ v → length (groups v) ≡ 1 + length (groups (v / 8))
+unfolding groups
+group_more v h =
+    let all = length-append (map (λ d. 8 + d) (digits_of 8 (v / 8))) (v % 8 ∷ []) in
+    let others = length-append (map (λ d. 8 + d) (digits_of 8 (v / 8 / 8))) (v / 8 % 8 ∷ []) in
+    let marked = length-map (digits_of 8 (v / 8)) (λ d. 8 + d) in
+    let fewer = length-map (digits_of 8 (v / 8 / 8)) (λ d. 8 + d) in
+    omega (arith, all, others, marked, fewer, length-digits_of_step 8 (v / 8) (omega arith) (omega arith))
+
+-- a number of 32 bits has 11 at most
+pub groups_few : (v : ℕ) → v < 2 ^ 32 → length (groups v) ≤ 11
+unfolding groups
+groups_few v h =
+    let all = length-append (map (λ d. 8 + d) (digits_of 8 (v / 8))) (v % 8 ∷ []) in
+    let marked = length-map (digits_of 8 (v / 8)) (λ d. 8 + d) in
+    omega (arith, all, marked, length-digits_of-le 8 10 (v / 8) (omega arith) (omega arith))
+
+-- two nibbles in a byte
+pub length-packed : (ns : List ℕ) → length (packed ns) ≡ (length ns + 1) / 2
+unfolding packed
+length-packed [] = omega arith
+length-packed (low ∷ []) = omega arith
+length-packed (low ∷ high ∷ ns) = omega (arith, length-packed ns)

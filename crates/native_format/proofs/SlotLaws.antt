@@ -5,14 +5,14 @@ use Rattle.std.specs.Result.{IfOk}
 use Rattle.std.specs.List.{flat_map, AllByRecursion}
 use Rattle.std.specs.Global.{Vec}
 use Rattle.std.proofs.lemmas.Bool.{eq-eqb, ne_eqb, lt-ltb, le-ltb, ltb-true, and_parts, and_right}
-use Rattle.std.proofs.lemmas.List.{append-nil, drop_more, drop_all, take_rest}
+use Rattle.std.proofs.lemmas.List.{append-nil, drop_more, drop_all, length-append, take_rest}
 use Rattle.std.proofs.lemmas.Grind.{flat_map-append}
 use Rattle.std.proofs.lemmas.Option.{none-some, same_Some}
 use Rattle.native_format.specs.declared.nibbles.SlotRef.{SlotRef}
 use Rattle.native_format.specs.declared.nibbles.ListRefusal.{ListRefusal}
-use Rattle.native_format.specs.Nibbles.{nibbles, numbers, numbers_between, numbers_behind, numbers_of, Precedes, AscendFrom, IsSlotList, FitsWords, BeginsWithList, fits_words, with_first, at_slot, slots_behind, slots_of, list_at, GivesList, groups, list_bytes}
+use Rattle.native_format.specs.Nibbles.{nibbles, numbers, numbers_between, numbers_after_slot, numbers_of, Precedes, AscendFrom, IsSlotList, FitsWords, BeginsWithList, fits_words, with_first, at_slot, slots_behind, slots_of, list_at, GivesList, groups, list_bytes}
 use Rattle.native_format.specs.NibbleSteps.{IsLost, ReadsSlot, numbers_from}
-use Rattle.native_format.proofs.NibbleLaws.{nibbles-append, nibbles-drop, nibbles_packed, numbers_written, written_are}
+use Rattle.native_format.proofs.NibbleLaws.{group_one, nibbles-append, nibbles-drop, nibbles_packed, numbers_written, written_are}
 
 abbrev Slots : Type 0
 Slots = List SlotRef
@@ -72,18 +72,18 @@ front_one r (Some rs) = refl
 
 -- ---- what is spelled is read
 
-all_behind : (last : SlotRef) (list : Slots) (behind : List ℕ) → AscendFrom last list → AllByRecursion FitsWords list → slots_behind last (numbers_behind last list ++ behind) ≡ Some list
-unfolding slots_behind numbers_behind
+all_behind : (last : SlotRef) (list : Slots) (behind : List ℕ) → AscendFrom last list → AllByRecursion FitsWords list → slots_behind last (numbers_after_slot last list ++ behind) ≡ Some list
+unfolding slots_behind numbers_after_slot
 all_behind last [] behind ascend fit = refl
 all_behind last (r ∷ rs) behind (inl lower, ascend) fit =
     let apart : eqb r.section last.section ≡ false = ne_eqb _ _ (λ e. omega (arith, e)) in
     let sum : last.section + (r.section - last.section) ≡ r.section = omega arith in
-    rw apart (behind_section last (r.section - last.section) r.slot (numbers_behind r rs ++ behind) (omega arith) ∙ rw sum (ap (with_first r) (all_behind r rs behind ascend fit.1) ∙ first_fits r rs fit.0))
+    rw apart (behind_section last (r.section - last.section) r.slot (numbers_after_slot r rs ++ behind) (omega arith) ∙ rw sum (ap (with_first r) (all_behind r rs behind ascend fit.1) ∙ first_fits r rs fit.0))
 all_behind last (r ∷ rs) behind (inr same, ascend) fit =
     let equal : eqb r.section last.section ≡ true = eq-eqb _ _ (sym same.0) in
     let sum : last.slot + (r.slot - last.slot) ≡ r.slot = omega (arith, same.1) in
     let section : last.section ≡ r.section = same.0 in
-    rw equal (behind_slot last (r.slot - last.slot) (numbers_behind r rs ++ behind) (omega (arith, same.1)) ∙ rw (sum, section) (ap (with_first r) (all_behind r rs behind ascend fit.1) ∙ first_fits r rs fit.0))
+    rw equal (behind_slot last (r.slot - last.slot) (numbers_after_slot r rs ++ behind) (omega (arith, same.1)) ∙ rw (sum, section) (ap (with_first r) (all_behind r rs behind ascend fit.1) ∙ first_fits r rs fit.0))
 
 pub all_of : (list : Slots) (behind : List ℕ) → IsSlotList list → AllByRecursion FitsWords list → slots_of (numbers_of list ++ behind) ≡ Some list
 unfolding slots_of numbers_of
@@ -95,10 +95,10 @@ all_of (r ∷ rs) behind ascend fit = ap (with_first r) (all_behind r rs behind 
 record Behind (last : SlotRef) (list : Slots) (ns : List ℕ) : Type 0 where
   pub ascend : AscendFrom last list
   pub behind : List ℕ
-  pub spelled : ns ≡ numbers_behind last list ++ behind
+  pub spelled : ns ≡ numbers_after_slot last list ++ behind
 
 read_behind : (last : SlotRef) (ns : List ℕ) (list : Slots) → slots_behind last ns ≡ Some list → Behind last list ns
-unfolding slots_behind numbers_behind
+unfolding slots_behind numbers_after_slot
 read_behind last [] list e = absurd (none-some list e)
 read_behind last (zero ∷ []) list e = absurd (none-some list e)
 read_behind last (zero ∷ zero ∷ ns) list e = subst (λ (l : Slots). Behind last l (zero ∷ zero ∷ ns)) (same_Some [] list e) (record { ascend = tt; behind = ns; spelled = refl })
@@ -244,21 +244,21 @@ in_order last list i slot d lt is h =
 
 -- what was put, and what is put behind it, are all
 pub put_one : (old new all : List ℕ) (last : SlotRef) (list : Slots) (i : ℕ) (slot d : SlotRef) → i < length list → slot ≡ get_or list i d
-    → new ≡ old ++ flat_map groups (numbers_between last slot) → old ++ flat_map groups (numbers_behind last (drop i list)) ≡ all
-    → new ++ flat_map groups (numbers_behind slot (drop (i + 1) list)) ≡ all
-unfolding numbers_behind
+    → new ≡ old ++ flat_map groups (numbers_between last slot) → old ++ flat_map groups (numbers_after_slot last (drop i list)) ≡ all
+    → new ++ flat_map groups (numbers_after_slot slot (drop (i + 1) list)) ≡ all
+unfolding numbers_after_slot
 put_one old new all last list i slot d lt is new-is e =
     let next : drop i list ≡ slot ∷ drop (i + 1) list = drop_more list i d lt ∙ ap (λ (r : SlotRef). r ∷ drop (i + 1) list) (sym is) in
-    let others = numbers_behind slot (drop (i + 1) list) in
-    let split : flat_map groups (numbers_behind last (drop i list)) ≡ flat_map groups (numbers_between last slot) ++ flat_map groups others = ap (λ (l : Slots). flat_map groups (numbers_behind last l)) next ∙ flat_map-append groups (numbers_between last slot) others in
+    let others = numbers_after_slot slot (drop (i + 1) list) in
+    let split : flat_map groups (numbers_after_slot last (drop i list)) ≡ flat_map groups (numbers_between last slot) ++ flat_map groups others = ap (λ (l : Slots). flat_map groups (numbers_after_slot last l)) next ∙ flat_map-append groups (numbers_between last slot) others in
     ap (λ (l : List ℕ). l ++ flat_map groups others) new-is ∙ append_assoc old _ _ ∙ ap (λ (l : List ℕ). old ++ l) (sym split) ∙ e
 
 pub put_last : (old one new all : List ℕ) (last : SlotRef) (list : Slots) (i : ℕ) → length list ≤ i → one ≡ old ++ groups 0 → new ≡ one ++ groups 0
-    → old ++ flat_map groups (numbers_behind last (drop i list)) ≡ all → new ≡ all
-unfolding numbers_behind
+    → old ++ flat_map groups (numbers_after_slot last (drop i list)) ≡ all → new ≡ all
+unfolding numbers_after_slot
 put_last old one new all last list i le one-is new-is e =
     let nothing : drop i list ≡ [] = drop_all i list le in
-    new-is ∙ ap (λ (l : List ℕ). l ++ groups 0) one-is ∙ append_assoc old (groups 0) (groups 0) ∙ ap (λ (l : List ℕ). old ++ (groups 0 ++ l)) (sym (append-nil (groups 0))) ∙ ap (λ (l : Slots). old ++ flat_map groups (numbers_behind last l)) (sym nothing) ∙ e
+    new-is ∙ ap (λ (l : List ℕ). l ++ groups 0) one-is ∙ append_assoc old (groups 0) (groups 0) ∙ ap (λ (l : List ℕ). old ++ (groups 0 ++ l)) (sym (append-nil (groups 0))) ∙ ap (λ (l : Slots). old ++ flat_map groups (numbers_after_slot last l)) (sym nothing) ∙ e
 
 pub some_slot : (list : Slots) → IsSlotList list → 1 ≤ length list
 some_slot [] h = absurd h
@@ -272,10 +272,35 @@ pub others_ascend : (list : Slots) (first d : SlotRef) → first ≡ get_or list
 others_ascend list first d is h = subst IsSlotList (first_and_others list first d is h) h
 
 pub put_all : (list : Slots) (first d : SlotRef) (old one two new : List ℕ) → first ≡ get_or list 0 d → IsSlotList list
-    → one ≡ old ++ groups first.section → two ≡ one ++ groups first.slot → new ≡ two ++ flat_map groups (numbers_behind first (take (length list - 1) (drop 1 list)))
+    → one ≡ old ++ groups first.section → two ≡ one ++ groups first.slot → new ≡ two ++ flat_map groups (numbers_after_slot first (take (length list - 1) (drop 1 list)))
     → new ≡ old ++ flat_map groups (numbers_of list)
 unfolding numbers_of
 put_all list first d old one two new is h one-is two-is new-is =
-    let rest = flat_map groups (numbers_behind first (drop 1 list)) in
+    let rest = flat_map groups (numbers_after_slot first (drop 1 list)) in
     let whole : old ++ flat_map groups (numbers_of (first ∷ drop 1 list)) ≡ old ++ flat_map groups (numbers_of list) = ap (λ (l : Slots). old ++ flat_map groups (numbers_of l)) (sym (first_and_others list first d is h)) in
-    new-is ∙ ap (λ (l : Slots). two ++ flat_map groups (numbers_behind first l)) (take_rest list 1) ∙ ap (λ (l : List ℕ). l ++ rest) two-is ∙ ap (λ (l : List ℕ). (l ++ groups first.slot) ++ rest) one-is ∙ simp append_assoc whole
+    new-is ∙ ap (λ (l : Slots). two ++ flat_map groups (numbers_after_slot first l)) (take_rest list 1) ∙ ap (λ (l : List ℕ). l ++ rest) two-is ∙ ap (λ (l : List ℕ). (l ++ groups first.slot) ++ rest) one-is ∙ simp append_assoc whole
+
+-- ---- how many nibbles
+
+abbrev count_of : List ℕ → ℕ
+count_of numbers = length (flat_map groups numbers)
+
+pub count_one : (last : SlotRef) (list : Slots) (i : ℕ) (slot d : SlotRef) → i < length list → slot ≡ get_or list i d
+    → count_of (numbers_after_slot last (drop i list)) ≡ count_of (numbers_between last slot) + count_of (numbers_after_slot slot (drop (i + 1) list))
+count_one last list i slot d lt is =
+    let between = flat_map groups (numbers_between last slot) in
+    sym (ap length (put_one [] between (flat_map groups (numbers_after_slot last (drop i list))) last list i slot d lt is refl refl))
+    ∙ length-append between (flat_map groups (numbers_after_slot slot (drop (i + 1) list)))
+
+pub count_last : (last : SlotRef) (list : Slots) (i : ℕ) → length list ≤ i → count_of (numbers_after_slot last (drop i list)) ≡ 2
+count_last last list i le =
+    sym (ap length (put_last [] (groups 0) (groups 0 ++ groups 0) (flat_map groups (numbers_after_slot last (drop i list))) last list i le refl refl refl))
+    ∙ length-append (groups 0) (groups 0) ∙ ap (λ (n : ℕ). n + length (groups 0)) (group_one 0 (omega arith)) ∙ ap (λ (n : ℕ). 1 + n) (group_one 0 (omega arith))
+
+pub count_all : (list : Slots) (first d : SlotRef) → first ≡ get_or list 0 d → IsSlotList list
+    → count_of (numbers_of list) ≡ length (groups first.section) + length (groups first.slot) + count_of (numbers_after_slot first (take (length list - 1) (drop 1 list)))
+count_all list first d is h =
+    let others = flat_map groups (numbers_after_slot first (take (length list - 1) (drop 1 list))) in
+    let front = groups first.section ++ groups first.slot in
+    sym (ap length (put_all list first d [] (groups first.section) front (front ++ others) is h refl refl refl))
+    ∙ length-append front others ∙ ap (λ (n : ℕ). n + length others) (length-append (groups first.section) (groups first.slot))

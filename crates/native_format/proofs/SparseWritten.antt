@@ -2,7 +2,7 @@
 use Rattle.std.proofs.Common.{◌≡◌, ℕ, zero, suc, ◌+◌, ◌*◌, ◌/◌, ◌%◌, ◌^◌, ◌<◌, ◌≤◌, true, cond, eqb, leb, List, [], ◌∷◌, ◌++◌, length, map, get_or, set, take, drop, Option, Some, None, Ok, refl, sym, ap, subst, ◌∙◌, append_assoc, arith, inl, inr}
 use denote.Ref.{Bor}
 use Rattle.std.specs.Prelude.{unwrap_or}
-use Rattle.std.specs.Option.{option_copied}
+use Rattle.std.specs.Option.{option_copied, option_map}
 use Rattle.std.specs.List.{range_with_len, slice_get}
 use Rattle.std.proofs.lemmas.Bool.{le-leb, lt-ltb, le-ltb, eq-eqb, ne_eqb, cases_lt, cases_eq}
 use Rattle.std.proofs.lemmas.List.{append-nil, length-append, drop_at, drop_more, take-append-drop, length-map, get_or-map, ext_get_or, get_or-set_same, get_or-set_other}
@@ -15,43 +15,45 @@ use Rattle.rtr_bytes.specs.Field.{field_at}
 use Rattle.native_format.specs.declared.sparse.Element.{Element}
 use Rattle.native_format.specs.Uint.{short_uint, uint_at}
 use Rattle.native_format.specs.Sparse.{Array, Answer, array_at, blocks_of, element_of, path, weights}
-use Rattle.native_format.specs.SparseBytes.{AreElements, fork_number, content_of, Finds, HoldsElements, slots_from, block_bytes, block, blocks, joined, index_bytes, sparse_bytes, tree}
+use Rattle.native_format.specs.SparseBytes.{AreElements, fork_number, content_by_index, Finds, HoldsElements, StandsAt, slots_from, block_bytes, block, blocks, joined, index_bytes, sparse_bytes, tree}
+use Rattle.native_format.specs.SparseLengths.{HoldsPlaced, block_at, blocks_len, content_place, lengths_of, place_in, sparse_len}
 use Rattle.native_format.specs.SparseSteps.{contents, SameFrom, IsSmall}
-use Rattle.native_format.proofs.TreeLaws.{uint_written, block_path, carried}
+use Rattle.native_format.proofs.SparseLengthLaws.{blocks_len_is, length-index, slots_of, sparse_len_is}
+use Rattle.native_format.proofs.TreeLaws.{FindsAt, uint_written, block_path, carried, lens, moved}
 
 abbrev Elements : Type 0
 Elements = List Element
 
 -- ---- elements by their index
 
-pub none_left : (es : Elements) (i : ℕ) → slice_get es 0 ≡ None → content_of es i ≡ None
-unfolding content_of
+pub none_left : (es : Elements) (i : ℕ) → slice_get es 0 ≡ None → content_by_index es i ≡ None
+unfolding content_by_index
 none_left [] i e = refl
 none_left (e ∷ es) i h = absurd (none-some e (sym h))
 
-pub first_found : (es : Elements) (e : Element) (i : ℕ) → slice_get es 0 ≡ Some e → e.index ≡ i → content_of es i ≡ Some e.content
-unfolding content_of
+pub first_found : (es : Elements) (e : Element) (i : ℕ) → slice_get es 0 ≡ Some e → e.index ≡ i → content_by_index es i ≡ Some e.content
+unfolding content_by_index
 first_found [] e i h at = absurd (none-some e h)
 first_found (x ∷ es) e i h at =
     let x-is : x ≡ e = same_Some x e h in
-    subst (λ (y : Element). cond (eqb y.index i) (Some y.content) (content_of es i) ≡ Some e.content) (sym x-is) (rw (eq-eqb _ _ at) refl)
+    subst (λ (y : Element). cond (eqb y.index i) (Some y.content) (content_by_index es i) ≡ Some e.content) (sym x-is) (rw (eq-eqb _ _ at) refl)
 
-pub absent_below : (es : Elements) (least count i : ℕ) → AreElements least count es → i < least → content_of es i ≡ None
-unfolding content_of
+pub absent_below : (es : Elements) (least count i : ℕ) → AreElements least count es → i < least → content_by_index es i ≡ None
+unfolding content_by_index
 absent_below [] least count i h lt = refl
 absent_below (e ∷ es) least count i h lt =
     let apart : e.index ≡ i → ⊥ = λ same. omega (arith, h.0) in
     rw (ne_eqb _ _ apart) (absent_below es (e.index + 1) count i h.2 (omega (arith, h.0)))
 
-pub absent_above : (es : Elements) (least count i : ℕ) → AreElements least count es → count ≤ i → content_of es i ≡ None
-unfolding content_of
+pub absent_above : (es : Elements) (least count i : ℕ) → AreElements least count es → count ≤ i → content_by_index es i ≡ None
+unfolding content_by_index
 absent_above [] least count i h le = refl
 absent_above (e ∷ es) least count i h le =
     let apart : e.index ≡ i → ⊥ = λ same. omega (arith, h.1) in
     rw (ne_eqb _ _ apart) (absent_above es (e.index + 1) count i h.2 le)
 
-pub first_other : (es : Elements) (e : Element) (i count : ℕ) → slice_get es 0 ≡ Some e → AreElements i count es → (e.index ≡ i → ⊥) → content_of es i ≡ None
-unfolding content_of
+pub first_other : (es : Elements) (e : Element) (i count : ℕ) → slice_get es 0 ≡ Some e → AreElements i count es → (e.index ≡ i → ⊥) → content_by_index es i ≡ None
+unfolding content_by_index
 first_other [] e i count h are other = refl
 first_other (x ∷ es) e i count h are other =
     let x-is : x ≡ e = same_Some x e h in
@@ -59,11 +61,6 @@ first_other (x ∷ es) e i count h are other =
     rw (ne_eqb _ _ apart) (absent_below es (x.index + 1) count i are.2 (omega (arith, are.0)))
 
 -- ---- the index
-
-length-index : (at : ℕ) (bs : List (List ℕ)) → length (index_bytes at bs) ≡ 4 * length bs
-unfolding index_bytes
-length-index at [] = refl
-length-index at (b ∷ bs) = length-append (little_bytes 4 at) (index_bytes (at + length b) bs) ∙ rw (length-bytes_low_first 0 4 at, length-index (at + length b) bs) (omega arith)
 
 four_at : (front behind : List ℕ) (n : ℕ) → n < 2 ^ 32 → field_at 4 (front ++ (little_bytes 4 n ++ behind)) (length front) ≡ Some n
 four_at front behind n h =
@@ -106,9 +103,9 @@ length-blocks es n = length-map-range_with_len (block es) 0 n
 block_is : (es : Elements) (n k : ℕ) → k < n → get_or (blocks es n) k [] ≡ block es k
 block_is es n k lt = get_or-map-range_with_len (block es) 0 n k k [] lt (omega arith)
 
-slot_of : (es : Elements) (i : ℕ) → get_or (slots_from es (16 * (i / 16)) 16) (i % 16) None ≡ content_of es i
+slot_of : (es : Elements) (i : ℕ) → get_or (slots_from es (16 * (i / 16)) 16) (i % 16) None ≡ content_by_index es i
 unfolding slots_from
-slot_of es i = get_or-map-range_with_len (content_of es) (16 * (i / 16)) 16 (i % 16) i None (omega arith) (omega arith)
+slot_of es i = get_or-map-range_with_len (content_by_index es) (16 * (i / 16)) 16 (i % 16) i None (omega arith) (omega arith)
 
 -- ---- the whole
 
@@ -121,8 +118,9 @@ regrouped h i j b d r body is = rw is (simp append_assoc)
 -- an element below the count, in bytes that are the header, the index, the blocks and what follows
 element_in : (header rest : List ℕ) (count : ℕ) (es : Elements) (i : ℕ) → i < count →
     length (index_bytes (4 * blocks_of count) (blocks es (blocks_of count)) ++ joined (blocks es (blocks_of count))) < 2 ^ 24 →
-    Finds (header ++ ((index_bytes (4 * blocks_of count) (blocks es (blocks_of count)) ++ joined (blocks es (blocks_of count))) ++ rest))
-    (element_of (array_in (header ++ ((index_bytes (4 * blocks_of count) (blocks es (blocks_of count)) ++ joined (blocks es (blocks_of count))) ++ rest)) (length header) count) i) (content_of es i)
+    FindsAt (header ++ ((index_bytes (4 * blocks_of count) (blocks es (blocks_of count)) ++ joined (blocks es (blocks_of count))) ++ rest)) 0
+    (element_of (array_in (header ++ ((index_bytes (4 * blocks_of count) (blocks es (blocks_of count)) ++ joined (blocks es (blocks_of count))) ++ rest)) (length header) count) i)
+    (option_map (λ p. length header + 4 * blocks_of count + blocks_len (lengths_of es) (i / 16) + p) (place_in weights (i % 16) (block_at (lengths_of es) (i / 16)))) (content_by_index es i)
 unfolding element_of
 element_in header rest count es i lt small =
     let n = blocks_of count in
@@ -149,11 +147,13 @@ element_in header rest count es i lt small =
     let split : front ++ (block es k ++ behind) ≡ bytes = regrouped header index (joined (take k bs)) (block es k) (joined (drop (k + 1) bs)) rest body body_is in
     let block_small : length (block es k) < 2 ^ 24 = omega (arith, ap length body_is, length-append (joined (take k bs)) (block es k ++ joined (drop (k + 1) bs)), length-append (block es k) (joined (drop (k + 1) bs)), sizes, small) in
     let found = block_path (i % 16) (slots_from es (16 * k) 16) front behind (omega arith) block_small in
-    let found_there : Finds bytes (path bytes (i % 16) weights (length header + distance)) (content_of es i) =
-    subst (Finds bytes (path bytes (i % 16) weights (length header + distance))) (slot_of es i)
-    (carried (front ++ (block es k ++ behind)) bytes (i % 16) weights (length front) (length header + distance) (path bytes (i % 16) weights (length header + distance)) (get_or (slots_from es (16 * k) 16) (i % 16) None) split front_len refl found) in
-    let answer : element_of a i ≡ path bytes (i % 16) weights (length header + distance) = rw (lt-ltb i count lt, entry, inside) refl in
-    subst (λ (r : Answer). Finds bytes r (content_of es i)) (sym answer) found_there
+    let base : length header + distance ≡ 0 + (length header + 4 * n + blocks_len (lengths_of es) k) = omega (arith, ap (λ (t : List (List ℕ)). length (joined t)) (take-map-range_with_len (block es) 0 n k (omega arith)), blocks_len_is es k) in
+    let found_there : FindsAt bytes (0 + (length header + 4 * n + blocks_len (lengths_of es) k)) (path bytes (i % 16) weights (0 + (length header + 4 * n + blocks_len (lengths_of es) k))) (place_in weights (i % 16) (block_at (lengths_of es) k)) (content_by_index es i) =
+    subst (λ (x : List (Option ℕ)). FindsAt bytes (0 + (length header + 4 * n + blocks_len (lengths_of es) k)) (path bytes (i % 16) weights (0 + (length header + 4 * n + blocks_len (lengths_of es) k))) (place_in weights (i % 16) x) (content_by_index es i)) (slots_of es k)
+    (subst (FindsAt bytes (0 + (length header + 4 * n + blocks_len (lengths_of es) k)) (path bytes (i % 16) weights (0 + (length header + 4 * n + blocks_len (lengths_of es) k))) (place_in weights (i % 16) (lens (slots_from es (16 * k) 16)))) (slot_of es i)
+    (carried (front ++ (block es k ++ behind)) bytes (i % 16) weights (length front) (0 + (length header + 4 * n + blocks_len (lengths_of es) k)) (place_in weights (i % 16) (lens (slots_from es (16 * k) 16))) (get_or (slots_from es (16 * k) 16) (i % 16) None) split (front_len ∙ base) found)) in
+    let answer : element_of a i ≡ path bytes (i % 16) weights (0 + (length header + 4 * n + blocks_len (lengths_of es) k)) = rw (lt-ltb i count lt, entry, inside) (ap (path bytes (i % 16) weights) base) in
+    moved bytes 0 (length header + 4 * n + blocks_len (lengths_of es) k) (path bytes (i % 16) weights (0 + (length header + 4 * n + blocks_len (lengths_of es) k))) (element_of a i) (place_in weights (i % 16) (block_at (lengths_of es) k)) (content_by_index es i) answer found_there
 
 element_past : (bytes : List ℕ) (header count : ℕ) (i : ℕ) → count ≤ i → element_of (array_in bytes header count) i ≡ Ok None
 unfolding element_of
@@ -172,9 +172,16 @@ header_is bytes behind count small is long =
     let high : v / 4 ≡ count = omega arith in
     rw (read, low, high, le-leb _ _ long) refl
 
-pub holds : (count : ℕ) (es : Elements) (rest : List ℕ) → AreElements 0 count es → length (sparse_bytes count es) < 2 ^ 24 → HoldsElements (sparse_bytes count es ++ rest) count es
-unfolding sparse_bytes
-holds count es rest are small =
+-- what stands at each index, and where
+record Written (bytes : List ℕ) (count : ℕ) (es : Elements) : Type 0 where
+  array : Array
+  is_there : array_at bytes 0 ≡ Some array
+  count_is : array.count ≡ count
+  each : (index : ℕ) → FindsAt bytes 0 (element_of array index) (content_place count (lengths_of es) index) (content_by_index es index)
+
+written : (count : ℕ) (es : Elements) (rest : List ℕ) → AreElements 0 count es → length (sparse_bytes count es) < 2 ^ 24 → Written (sparse_bytes count es ++ rest) count es
+unfolding sparse_bytes content_place
+written count es rest are small =
     let n = blocks_of count in
     let bs = blocks es n in
     let header = short_uint (4 * count + 2) in
@@ -186,9 +193,10 @@ holds count es rest are small =
     let content_small : length content < 2 ^ 24 = omega (arith, sizes, small) in
     let total : length bytes ≡ length (header ++ content) + length rest = length-append (header ++ content) rest in
     let array = array_in bytes (length header) count in
-    let each : (i : ℕ) → Finds bytes (element_of array i) (content_of es i) = λ i. elim (cases_lt i count) [
-      | inl lt ↦ subst (λ (xs : List ℕ). Finds xs (element_of (array_in xs (length header) count) i) (content_of es i)) flat (element_in header rest count es i lt content_small)
-      | inr le ↦ rw (absent_above es 0 count i are le) (element_past bytes (length header) count i le)
+    let each : (i : ℕ) → FindsAt bytes 0 (element_of array i) (content_place count (lengths_of es) i) (content_by_index es i) = λ i. elim (cases_lt i count) [
+      | inl lt ↦ rw (lt-ltb i count lt) (subst (λ (xs : List ℕ). FindsAt xs 0 (element_of (array_in xs (length header) count) i)
+          (option_map (λ p. length header + 4 * n + blocks_len (lengths_of es) (i / 16) + p) (place_in weights (i % 16) (block_at (lengths_of es) (i / 16)))) (content_by_index es i)) flat (element_in header rest count es i lt content_small))
+      | inr le ↦ rw (le-ltb i count le, absent_above es 0 count i are le) (element_past bytes (length header) count i le)
     ] in
     record {
       array = array;
@@ -197,10 +205,55 @@ holds count es rest are small =
       each = each;
     }
 
+found_of : (bytes : List ℕ) (answer : Answer) (place : Option ℕ) (slot : Option (List ℕ)) → FindsAt bytes 0 answer place slot → Finds bytes answer slot
+found_of bytes answer None None h = h
+found_of bytes answer None (Some content) h = absurd h
+found_of bytes answer (Some place) None h = absurd h
+found_of bytes answer (Some place) (Some content) (is, stands) = (0 + place, is, stands)
+
+answer_of : (bytes : List ℕ) (answer : Answer) (place : Option ℕ) (slot : Option (List ℕ)) → FindsAt bytes 0 answer place slot → answer ≡ Ok place
+answer_of bytes answer None None h = h
+answer_of bytes answer None (Some content) h = absurd h
+answer_of bytes answer (Some place) None h = absurd h
+answer_of bytes answer (Some place) (Some content) (is, stands) =
+    let at : 0 + place ≡ place = omega arith in
+    subst (λ (n : ℕ). answer ≡ Ok (Some n)) at is
+
+stands_of : (bytes : List ℕ) (answer : Answer) (at : Option ℕ) (slot : Option (List ℕ)) (place : ℕ) → FindsAt bytes 0 answer at slot → at ≡ Some place
+    → (content : List ℕ) × (slot ≡ Some content) × StandsAt bytes place content
+stands_of bytes answer None None place h e = absurd (none-some place e)
+stands_of bytes answer None (Some content) place h e = absurd h
+stands_of bytes answer (Some at) None place h e = absurd h
+stands_of bytes answer (Some at) (Some content) place (is, stands) e =
+    let same : 0 + at ≡ place = omega (arith, same_Some at place e) in
+    (content, refl, subst (λ (n : ℕ). StandsAt bytes n content) same stands)
+
+pub holds : (count : ℕ) (es : Elements) (rest : List ℕ) → AreElements 0 count es → length (sparse_bytes count es) < 2 ^ 24 → HoldsElements (sparse_bytes count es ++ rest) count es
+holds count es rest are small =
+    let w = written count es rest are small in
+    record {
+      array = w.array;
+      is_there = w.is_there;
+      count_is = w.count_is;
+      each = λ i. found_of (sparse_bytes count es ++ rest) (element_of w.array i) (content_place count (lengths_of es) i) (content_by_index es i) (w.each i);
+    }
+
+-- and where, by the lengths alone
+pub placed : (count : ℕ) (es : Elements) (rest : List ℕ) → AreElements 0 count es → sparse_len count (lengths_of es) < 2 ^ 24 → HoldsPlaced (sparse_bytes count es ++ rest) count es
+placed count es rest are small =
+    let w = written count es rest are (omega (arith, sparse_len_is count es)) in
+    let bytes = sparse_bytes count es ++ rest in
+    record {
+      array = w.array;
+      is_there = w.is_there;
+      found = λ i. answer_of bytes (element_of w.array i) (content_place count (lengths_of es) i) (content_by_index es i) (w.each i);
+      stands = λ i place e. stands_of bytes (element_of w.array i) (content_place count (lengths_of es) i) (content_by_index es i) place (w.each i) e;
+    }
+
 -- ---- the slots of a block, one after the other
 
-pub behind_found : (es : Elements) (i : ℕ) (c : List ℕ) → AreElements i (2 ^ 32) es → Some c ≡ content_of es i → (1 ≤ length es) × AreElements (i + 1) (2 ^ 32) (drop 1 es) × SameFrom (i + 1) es (drop 1 es)
-unfolding content_of
+pub behind_found : (es : Elements) (i : ℕ) (c : List ℕ) → AreElements i (2 ^ 32) es → Some c ≡ content_by_index es i → (1 ≤ length es) × AreElements (i + 1) (2 ^ 32) (drop 1 es) × SameFrom (i + 1) es (drop 1 es)
+unfolding content_by_index
 behind_found [] i c are e = absurd (none-some c (sym e))
 behind_found (x ∷ es) i c are e =
     elim (cases_eq x.index i) [
@@ -212,8 +265,8 @@ behind_found (x ∷ es) i c are e =
           absurd (none-some c (sym (e ∙ rw (ne_eqb _ _ other) (absent_below es (x.index + 1) (2 ^ 32) i are.2 later))))
     ]
 
-pub behind_none : (es : Elements) (i : ℕ) → AreElements i (2 ^ 32) es → None ≡ content_of es i → AreElements (i + 1) (2 ^ 32) es
-unfolding content_of
+pub behind_none : (es : Elements) (i : ℕ) → AreElements i (2 ^ 32) es → None ≡ content_by_index es i → AreElements (i + 1) (2 ^ 32) es
+unfolding content_by_index
 behind_none [] i are e = tt
 behind_none (x ∷ es) i are e =
     elim (cases_eq x.index i) [
@@ -221,19 +274,19 @@ behind_none (x ∷ es) i are e =
       | inr other ↦ (omega (arith, are.0, other), are.1, are.2)
     ]
 
-pub all_slots : (xs : List (Option (Bor (List ℕ)))) (es : Elements) (first n : ℕ) → length xs ≡ n → ((k : ℕ) → k < n → option_copied (get_or xs k None) ≡ content_of es (first + k)) → contents xs ≡ slots_from es first n
+pub all_slots : (xs : List (Option (Bor (List ℕ)))) (es : Elements) (first n : ℕ) → length xs ≡ n → ((k : ℕ) → k < n → option_copied (get_or xs k None) ≡ content_by_index es (first + k)) → contents xs ≡ slots_from es first n
 unfolding slots_from
 all_slots xs es first n len each =
-    ext_get_or None (contents xs) (map (content_of es) (range_with_len first n)) (length-map xs option_copied ∙ len ∙ sym (length-map-range_with_len (content_of es) first n))
+    ext_get_or None (contents xs) (map (content_by_index es) (range_with_len first n)) (length-map xs option_copied ∙ len ∙ sym (length-map-range_with_len (content_by_index es) first n))
     (λ k lt. let k_lt : k < n = omega (arith, length-map xs option_copied) in
-    get_or-map option_copied xs k None None (omega arith) ∙ each k k_lt ∙ sym (get_or-map-range_with_len (content_of es) first n k (first + k) None k_lt refl))
+    get_or-map option_copied xs k None None (omega arith) ∙ each k k_lt ∙ sym (get_or-map-range_with_len (content_by_index es) first n k (first + k) None k_lt refl))
 
-pub set_slot : (xs : List (Option (Bor (List ℕ)))) (es rest : Elements) (first i : ℕ) (slot : Option (Bor (List ℕ))) → i < length xs → option_copied slot ≡ content_of rest (first + i)
-    → SameFrom (first + i) es rest → ((k : ℕ) → k < i → option_copied (get_or xs k None) ≡ content_of es (first + k))
-    → (k : ℕ) → k < i + 1 → option_copied (get_or (set xs i slot) k None) ≡ content_of es (first + k)
+pub set_slot : (xs : List (Option (Bor (List ℕ)))) (es rest : Elements) (first i : ℕ) (slot : Option (Bor (List ℕ))) → i < length xs → option_copied slot ≡ content_by_index rest (first + i)
+    → SameFrom (first + i) es rest → ((k : ℕ) → k < i → option_copied (get_or xs k None) ≡ content_by_index es (first + k))
+    → (k : ℕ) → k < i + 1 → option_copied (get_or (set xs i slot) k None) ≡ content_by_index es (first + k)
 set_slot xs es rest first i slot lt slot-is same before k k_lt =
     elim (cases_eq k i) [
-      | inl at ↦ ap (λ (n : ℕ). option_copied (get_or (set xs i slot) n None)) at ∙ ap option_copied (get_or-set_same xs i slot None lt) ∙ slot-is ∙ same (first + i) (omega arith) ∙ ap (λ (n : ℕ). content_of es (first + n)) (sym at)
+      | inl at ↦ ap (λ (n : ℕ). option_copied (get_or (set xs i slot) n None)) at ∙ ap option_copied (get_or-set_same xs i slot None lt) ∙ slot-is ∙ same (first + i) (omega arith) ∙ ap (λ (n : ℕ). content_by_index es (first + n)) (sym at)
       | inr other ↦ ap option_copied (get_or-set_other xs i k slot None other) ∙ before k (omega (arith, other))
     ]
 
@@ -266,9 +319,9 @@ add_block es k old new new-is old-is = new-is ∙ ap (λ (t : List ℕ). t ++ bl
 pub same_slots : (es rest : Elements) (first n : ℕ) → SameFrom first es rest → slots_from rest first n ≡ slots_from es first n
 unfolding slots_from
 same_slots es rest first n same =
-    ext_get_or None (map (content_of rest) (range_with_len first n)) (map (content_of es) (range_with_len first n)) (length-map-range_with_len (content_of rest) first n ∙ sym (length-map-range_with_len (content_of es) first n))
-    (λ k lt. let k_lt : k < n = omega (arith, length-map-range_with_len (content_of rest) first n) in
-    get_or-map-range_with_len (content_of rest) first n k (first + k) None k_lt refl ∙ same (first + k) (omega arith) ∙ sym (get_or-map-range_with_len (content_of es) first n k (first + k) None k_lt refl))
+    ext_get_or None (map (content_by_index rest) (range_with_len first n)) (map (content_by_index es) (range_with_len first n)) (length-map-range_with_len (content_by_index rest) first n ∙ sym (length-map-range_with_len (content_by_index es) first n))
+    (λ k lt. let k_lt : k < n = omega (arith, length-map-range_with_len (content_by_index rest) first n) in
+    get_or-map-range_with_len (content_by_index rest) first n k (first + k) None k_lt refl ∙ same (first + k) (omega arith) ∙ sym (get_or-map-range_with_len (content_by_index es) first n k (first + k) None k_lt refl))
 
 pub block_from : (es rest : Elements) (k : ℕ) (slots : List (Option (List ℕ))) → slots ≡ slots_from rest (16 * k) 16 → SameFrom (16 * k) es rest → block_bytes slots ≡ block es k
 block_from es rest k slots is same = ap block_bytes (is ∙ same_slots es rest (16 * k) 16 same)
@@ -328,13 +381,13 @@ abbrev pub of_one : ℕ → List ℕ → Elements
 of_one index content = record { index = index; content = content } ∷ []
 
 pub small_one : length (sparse_bytes 1 (of_one 0 (0x0C ∷ []))) < 2 ^ 24
-unfolding sparse_bytes content_of slots_from tree short_uint fork_number index_bytes
+unfolding sparse_bytes content_by_index slots_from tree short_uint fork_number index_bytes
 small_one = omega arith
 
 pub small_two : length (sparse_bytes 4 (record { index = 0; content = 0x0C ∷ [] } ∷ of_one 3 (0x0D ∷ 0x0E ∷ []))) < 2 ^ 24
-unfolding sparse_bytes content_of slots_from tree short_uint fork_number index_bytes
+unfolding sparse_bytes content_by_index slots_from tree short_uint fork_number index_bytes
 small_two = omega arith
 
 pub small_late : length (sparse_bytes 17 (of_one 16 (0x08 ∷ []))) < 2 ^ 24
-unfolding sparse_bytes content_of slots_from tree short_uint fork_number index_bytes
+unfolding sparse_bytes content_by_index slots_from tree short_uint fork_number index_bytes
 small_late = omega arith

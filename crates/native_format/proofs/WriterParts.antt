@@ -6,7 +6,8 @@ use Rattle.std.specs.Option.{option_copied, option_map}
 use Rattle.std.proofs.lemmas.List.{append-nil, length-append, length-take-le, length-drop, take-map, drop-map, take_rest}
 use Rattle.native_format.specs.Uint.{short_uint}
 use Rattle.native_format.specs.SparseBytes.{fork_number, node, tree}
-use Rattle.native_format.specs.SparseSteps.{AreSlots, IsSmall, IsShort, contents, length_of_node, head_of_node}
+use Rattle.native_format.specs.SparseSteps.{AreSlots, IsSmall, IsShort, contents, head_of_node}
+use Rattle.native_format.specs.SparseLengths.{fork_len, node_len}
 use Rattle.native_format.proofs.UintLaws.{short_len}
 
 abbrev Lent : Type 0
@@ -20,7 +21,7 @@ pub split_weights : (ws : List ℕ) → 1 ≤ length ws → ws ≡ get_or ws 0 0
 split_weights [] h = absurd (omega arith)
 split_weights (w ∷ ws) h = ap (λ (l : List ℕ). w ∷ l) (sym (take_rest (w ∷ ws) 1))
 
-wide_split : (ws : List ℕ) (n : ℕ) → 1 ≤ length ws → AreSlots ws n → (n ≡ 2 * get_or ws 0 0) × AreSlots (below ws) (get_or ws 0 0)
+pub wide_split : (ws : List ℕ) (n : ℕ) → 1 ≤ length ws → AreSlots ws n → (n ≡ 2 * get_or ws 0 0) × AreSlots (below ws) (get_or ws 0 0)
 wide_split ws n h wide = subst (λ (l : List ℕ). AreSlots l n) (split_weights ws h) wide
 
 pub half_within : (ws : List ℕ) (n : ℕ) → 1 ≤ length ws → AreSlots ws n → n ≡ 2 * get_or ws 0 0
@@ -65,7 +66,8 @@ small_low ws slots h s = (node_small _ (tree (below ws) (contents (upper (get_or
 pub small_high : (ws : List ℕ) (slots : Lent) → 1 ≤ length ws → IsSmall (tree ws (contents slots)) → IsSmall (tree (below ws) (contents (upper (get_or ws 0 0) slots)))
 small_high ws slots h s = (node_small (tree (below ws) (contents (take (get_or ws 0 0) slots))) _ (subst IsSmall (halves ws slots h) s)).1
 
-node_len_is : (l h : Option (List ℕ)) → option_map length (node l h) ≡ length_of_node (option_map length l) (option_map length h)
+pub node_len_is : (l h : Option (List ℕ)) → option_map length (node l h) ≡ node_len (option_map length l) (option_map length h)
+unfolding fork_len
 node_len_is None None = refl
 node_len_is (Some l) None = ap (λ (n : ℕ). Some n) (length-append (short_uint 1) l ∙ ap (λ (n : ℕ). n + length l) (short_len 1))
 node_len_is None (Some h) = ap (λ (n : ℕ). Some n) (length-append (short_uint 6) h ∙ ap (λ (n : ℕ). n + length h) (short_len 6))
@@ -78,13 +80,13 @@ short_from_small (Some t) s = s
 -- the length of a tree, by those of its halves
 pub len_is : (ws : List ℕ) (slots : Lent) (low high : Option ℕ) → 1 ≤ length ws
     → low ≡ option_map length (tree (below ws) (contents (take (get_or ws 0 0) slots))) → high ≡ option_map length (tree (below ws) (contents (upper (get_or ws 0 0) slots)))
-    → length_of_node low high ≡ option_map length (tree ws (contents slots))
+    → node_len low high ≡ option_map length (tree ws (contents slots))
 len_is ws slots low high h p q =
     rw (p, q) (sym (node_len_is (tree (below ws) (contents (take (get_or ws 0 0) slots))) (tree (below ws) (contents (upper (get_or ws 0 0) slots))))) ∙ ap (option_map length) (sym (halves ws slots h))
 
 pub len_small : (ws : List ℕ) (slots : Lent) (low high : Option ℕ) → 1 ≤ length ws
     → low ≡ option_map length (tree (below ws) (contents (take (get_or ws 0 0) slots))) → high ≡ option_map length (tree (below ws) (contents (upper (get_or ws 0 0) slots)))
-    → IsSmall (tree ws (contents slots)) → IsShort (length_of_node low high)
+    → IsSmall (tree ws (contents slots)) → IsShort (node_len low high)
 len_small ws slots low high h p q s = subst IsShort (sym (len_is ws slots low high h p q)) (short_from_small (tree ws (contents slots)) s)
 
 -- ---- a single slot

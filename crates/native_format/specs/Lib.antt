@@ -4,3 +4,5 @@ pub mod NibbleSteps
 pub mod Sparse
 pub mod SparseBytes
 pub mod SparseSteps
+pub mod SparseLengths
+pub mod Laws

@@ -29,14 +29,14 @@ numbers_between last next =
     if next.section == last.section then (next.slot - last.slot) ∷ [] else 0 ∷ (next.section - last.section) ∷ next.slot ∷ []
 
 -- the numbers behind a slot; the list ends with 0 for the next slot and 0 for the next section
-unfoldable pub numbers_behind : SlotRef → List SlotRef → List ℕ
-numbers_behind last [] = 0 ∷ 0 ∷ []
-numbers_behind last (next ∷ others) = numbers_between last next ++ numbers_behind next others
+unfoldable pub numbers_after_slot : SlotRef → List SlotRef → List ℕ
+numbers_after_slot last [] = 0 ∷ 0 ∷ []
+numbers_after_slot last (next ∷ others) = numbers_between last next ++ numbers_after_slot next others
 
 -- the first section and slot as they are, and then the others
 unfoldable pub numbers_of : List SlotRef → List ℕ
 numbers_of [] = []
-numbers_of (r ∷ rs) = r.section ∷ r.slot ∷ numbers_behind r rs
+numbers_of (r ∷ rs) = r.section ∷ r.slot ∷ numbers_after_slot r rs
 
 -- one slot comes before another: by section, and then by slot
 abbrev pub Precedes : SlotRef → SlotRef → Type 0

@@ -13,9 +13,9 @@ AreElements least count [] = Unit {0}
 AreElements least count (e ∷ es) = (least ≤ e.index) × (e.index < count) × AreElements (e.index + 1) count es
 
 -- the content of the element of an index
-unfoldable pub content_of : List Element → ℕ → Option (List ℕ)
-content_of [] index = None
-content_of (e ∷ es) index = if e.index == index then Some e.content else content_of es index
+unfoldable pub content_by_index : List Element → ℕ → Option (List ℕ)
+content_by_index [] index = None
+content_by_index (e ∷ es) index = if e.index == index then Some e.content else content_by_index es index
 
 -- ---- what the bytes hold
 
@@ -36,21 +36,21 @@ pub record HoldsElements (bytes : List ℕ) (count : ℕ) (elements : List Eleme
   pub array : Array
   pub is_there : array_at bytes 0 ≡ Some array
   pub count_is : array.count ≡ count
-  pub each : (index : ℕ) → Finds bytes (element_of array index) (content_of elements index)
+  pub each : (index : ℕ) → Finds bytes (element_of array index) (content_by_index elements index)
 
 -- ---- a block's tree
 
 -- The number of a node with both children: the distance to the second counts the node's own bytes, which are
 -- as few as hold it.
-abbrev pub number_in : ℕ → ℕ → ℕ
-number_in low n = 4 * (n + low) + 3
+abbrev pub fork_in : ℕ → ℕ → ℕ
+fork_in low n = 4 * (n + low) + 3
 
 unfoldable pub fork_number : ℕ → ℕ
 fork_number low =
-    if nat_lt (number_in low 1) (2 ^ 7) then number_in low 1
-    else if nat_lt (number_in low 2) (2 ^ 14) then number_in low 2
-    else if nat_lt (number_in low 3) (2 ^ 21) then number_in low 3
-    else number_in low 4
+    if nat_lt (fork_in low 1) (2 ^ 7) then fork_in low 1
+    else if nat_lt (fork_in low 2) (2 ^ 14) then fork_in low 2
+    else if nat_lt (fork_in low 3) (2 ^ 21) then fork_in low 3
+    else fork_in low 4
 
 -- a node above the trees of its clear and its set bit
 abbrev pub node : Option (List ℕ) → Option (List ℕ) → Option (List ℕ)
@@ -68,7 +68,7 @@ tree (weight ∷ lower) slots = node (tree lower (take weight slots)) (tree lowe
 
 -- the contents of n indexes from a first one on
 unfoldable pub slots_from : List Element → ℕ → ℕ → List (Option (List ℕ))
-slots_from elements first n = map (content_of elements) (range_with_len first n)
+slots_from elements first n = map (content_by_index elements) (range_with_len first n)
 
 abbrev pub block_bytes : List (Option (List ℕ)) → List ℕ
 block_bytes slots = unwrap_or (tree weights slots) (short_uint 64)

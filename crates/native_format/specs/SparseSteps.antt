@@ -4,7 +4,7 @@ use Rattle.std.specs.Option.{option_copied}
 use denote.Ref.{Bor}
 use Rattle.native_format.specs.declared.sparse.Element.{Element}
 use Rattle.native_format.specs.Uint.{short_uint}
-use Rattle.native_format.specs.SparseBytes.{content_of, fork_number}
+use Rattle.native_format.specs.SparseBytes.{content_by_index, fork_number}
 
 -- as many slots as the weights tell apart
 abbrev pub AreSlots : List ℕ → ℕ → Type 0
@@ -23,13 +23,7 @@ IsShort (Some n) = n < 2 ^ 24
 abbrev pub contents : List (Option (Bor (List ℕ))) → List (Option (List ℕ))
 contents slots = map option_copied slots
 
--- a node's length and its own number, by the lengths of the trees below
-abbrev pub length_of_node : Option ℕ → Option ℕ → Option ℕ
-length_of_node None None = None
-length_of_node (Some low) None = Some (1 + low)
-length_of_node None (Some high) = Some (1 + high)
-length_of_node (Some low) (Some high) = Some (length (short_uint (fork_number low)) + (low + high))
-
+-- a node's own bytes, by the lengths of the trees below
 abbrev pub head_of_node : Option ℕ → Option ℕ → List ℕ
 head_of_node None None = []
 head_of_node (Some low) None = short_uint 1
@@ -38,4 +32,4 @@ head_of_node (Some low) (Some high) = short_uint (fork_number low)
 
 -- the contents are the same from an index on
 abbrev pub SameFrom : ℕ → List Element → List Element → Type 0
-SameFrom least before after = (index : ℕ) → least ≤ index → content_of after index ≡ content_of before index
+SameFrom least before after = (index : ℕ) → least ≤ index → content_by_index after index ≡ content_by_index before index

@@ -4,7 +4,7 @@ ghost use Rattle.std.specs.Prelude.{◌≡◌, ◌*◌, ◌+◌, ◌<◌, ◌≤
 ghost use Rattle.std.specs.List.{flat_map};
 ghost use Rattle.std.specs.Option.{option_to_list};
 ghost use Rattle.std.specs.Int.Digits.{digits_of};
-ghost use Rattle.native_format.specs.Nibbles.{AscendFrom, BeginsWithList, IsSlotList, groups, list_bytes, nibbles, numbers, numbers_behind, numbers_between, numbers_of, packed, Precedes};
+ghost use Rattle.native_format.specs.Nibbles.{AscendFrom, BeginsWithList, IsSlotList, groups, list_bytes, nibbles, numbers, numbers_after_slot, numbers_between, numbers_of, packed, Precedes};
 
 use crate::nibbles::SlotRef;
 use rtr_bytes::NoMemory;
@@ -93,9 +93,9 @@ fn put_next(out: &mut NibbleWriter, last: SlotRef, next: SlotRef) -> Result<(), 
     Ok(())
 }
 
-fn put_behind(out: &mut NibbleWriter, first: SlotRef, others: &[SlotRef]) -> Result<(), NoMemory>
+fn put_others(out: &mut NibbleWriter, first: SlotRef, others: &[SlotRef]) -> Result<(), NoMemory>
     requires { AscendFrom first others.now }
-    ensures { OnOk result (out.new ≡ out.old ++ flat_map groups (numbers_behind first others.now)) }
+    ensures { OnOk result (out.new ≡ out.old ++ flat_map groups (numbers_after_slot first others.now)) }
 {
     let mut last = first;
     for slot in others {
@@ -114,7 +114,7 @@ fn put_list(out: &mut NibbleWriter, list: &[SlotRef]) -> Result<(), NoMemory>
     let first = list[0];
     out.put_number(first.section)?;
     out.put_number(first.slot)?;
-    put_behind(out, first, &list[1..])?;
+    put_others(out, first, &list[1..])?;
     Ok(())
 }
 

@@ -2,6 +2,15 @@
 
 use rtr_bytes::Sequence;
 
+/// How many elements a block has.
+pub(crate) const BLOCK_SIZE: u32 = 16;
+
+/// How many bytes an entry of a written index has.
+pub(crate) const ENTRY_SIZE: u64 = 4;
+
+/// The weights of the bits of an element's number in its block, from the root of the tree down.
+pub(crate) const WEIGHTS: [usize; 4] = [8, 4, 2, 1];
+
 /// Where a node of a block's tree leads.
 #[derive(Clone, Copy)]
 pub(crate) enum Step {

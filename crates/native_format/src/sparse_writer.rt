@@ -4,37 +4,24 @@ ghost use Rattle.std.specs.Prelude.{◌≡◌, ◌≤◌, ◌<◌, ◌^◌, ◌+
 ghost use Rattle.std.specs.Option.{option_copied, option_map};
 ghost use Rattle.native_format.specs.Uint.{short_uint};
 ghost use Rattle.native_format.specs.Sparse.{weights};
-ghost use Rattle.native_format.specs.SparseBytes.{AreElements, HoldsElements, block_bytes, blocks, content_of, fork_number, index_bytes, joined, slots_from, sparse_bytes, tree};
-ghost use Rattle.native_format.specs.SparseSteps.{AreSlots, SameFrom, IsSmall, IsShort, contents, head_of_node, length_of_node};
+ghost use Rattle.native_format.specs.SparseBytes.{AreElements, HoldsElements, block_bytes, blocks, content_by_index, fork_number, index_bytes, joined, slots_from, sparse_bytes, tree};
+ghost use Rattle.native_format.specs.SparseLengths.{fork_len, node_len};
+ghost use Rattle.native_format.specs.SparseSteps.{AreSlots, SameFrom, IsSmall, IsShort, contents, head_of_node};
 
-use crate::sparse::Element;
-use crate::uint::write_uint;
+use crate::sparse::{BLOCK_SIZE, Element, WEIGHTS};
+use crate::uint::{uint_len, write_uint};
 use rtr_bytes::NoMemory;
 use std::alloc::Global;
 
+/// A node with the child of a clear bit alone, which is right after it.
+const LOW_ONLY: u32 = 1;
+/// A node with the child of a set bit alone, which is right after it: one byte from its start.
+const HIGH_ONLY: u32 = 6;
+/// The node of an empty block: a single element whose number no index has.
+const EMPTY_BLOCK: u32 = 64;
+
 /// The content of the element of one index, where it has one.
 type Slot<'a> = Option<&'a [u8]>;
-
-/// The weights of the bits of an element's number in its block, from the root of the tree down.
-const WEIGHTS: [usize; 4] = [8, 4, 2, 1];
-
-/// How many bytes the shortest spelling of a native integer has.
-#[tactic(auto, unfolding(crate::specs::Uint::short_uint))]
-fn short_size(value: u32) -> u32
-    ensures { result ≡ length (short_uint value) }
-{
-    if value < 1 << 7 {
-        1
-    } else if value < 1 << 14 {
-        2
-    } else if value < 1 << 21 {
-        3
-    } else if value < 1 << 28 {
-        4
-    } else {
-        5
-    }
-}
 
 /// The number of a node with two children, of which the first has so many bytes.
 #[tactic(auto, unfolding(crate::specs::SparseBytes::fork_number))]
@@ -55,15 +42,16 @@ fn fork_of(low: u32) -> u32
 }
 
 /// How many bytes a node has with the trees below it, by how many each of them has.
+#[tactic(auto, unfolding(crate::specs::SparseLengths::fork_len))]
 fn node_len(low: Option<u32>, high: Option<u32>) -> Option<u32>
-    requires { IsShort (length_of_node low high) }
-    ensures { result ≡ length_of_node low high }
+    requires { IsShort (node_len low high) }
+    ensures { result ≡ node_len low high }
 {
     match (low, high) {
         (None, None) => None,
         (Some(low), None) => Some(1 + low),
         (None, Some(high)) => Some(1 + high),
-        (Some(low), Some(high)) => Some(short_size(fork_of(low)) + (low + high)),
+        (Some(low), Some(high)) => Some(uint_len(u64::from(fork_of(low))) as u32 + (low + high)),
     }
 }
 
@@ -93,13 +81,13 @@ fn content_len(slot: Slot<'_>) -> Option<u32>
 
 /// Appends the number of a node with the trees below it, by how many bytes each of them has.
 fn put_node(out: &mut Vec<u8>, low: Option<u32>, high: Option<u32>) -> Result<(), NoMemory>
-    requires { IsShort (length_of_node low high) }
+    requires { IsShort (node_len low high) }
     ensures { OnOk result (out.new.items ≡ out.old.items ++ head_of_node low high) }
 {
     match (low, high) {
         (None, None) => {}
-        (Some(_), None) => write_uint(out, 1)?,
-        (None, Some(_)) => write_uint(out, 6)?,
+        (Some(_), None) => write_uint(out, LOW_ONLY)?,
+        (None, Some(_)) => write_uint(out, HIGH_ONLY)?,
         (Some(len), Some(_)) => write_uint(out, fork_of(len))?,
     }
     Ok(())
@@ -138,7 +126,7 @@ fn put_block(out: &mut Vec<u8>, slots: &[Slot<'_>]) -> Result<(), NoMemory>
     ensures { OnOk result (out.new.items ≡ out.old.items ++ block_bytes (contents slots.now)) }
 {
     match tree_len(&WEIGHTS, slots) {
-        None => write_uint(out, 64)?,
+        None => write_uint(out, EMPTY_BLOCK)?,
         Some(_) => put_tree(out, &WEIGHTS, slots)?,
     }
     Ok(())
@@ -147,7 +135,7 @@ fn put_block(out: &mut Vec<u8>, slots: &[Slot<'_>]) -> Result<(), NoMemory>
 /// The content of the first of the elements, where that is the one of the index.
 fn first_slot(elements: &[Element], index: u32) -> Slot<'_>
     requires { AreElements index (2 ^ 32) elements.now }
-    ensures { option_copied result ≡ content_of elements.now index }
+    ensures { option_copied result ≡ content_by_index elements.now index }
 {
     let first = elements.first()?;
     if first.index == index {
@@ -157,10 +145,10 @@ fn first_slot(elements: &[Element], index: u32) -> Slot<'_>
     }
 }
 
-/// The slot of an index, and the elements behind it.
+/// The slot of an index, and the elements after it.
 fn next_slot(elements: &[Element], index: u32) -> (Slot<'_>, &[Element])
     requires { AreElements index (2 ^ 32) elements.now }
-    ensures slot { option_copied result.0 ≡ content_of elements.now index }
+    ensures slot { option_copied result.0 ≡ content_by_index elements.now index }
     ensures elements { AreElements (index + 1) (2 ^ 32) result.1.now }
     ensures others { SameFrom (index + 1) elements.now result.1.now }
 {
@@ -170,7 +158,7 @@ fn next_slot(elements: &[Element], index: u32) -> (Slot<'_>, &[Element])
     }
 }
 
-/// The slots of sixteen indexes from a first one on, and the elements behind them.
+/// The slots of sixteen indexes from a first one on, and the elements after them.
 fn block_slots(elements: &[Element], first: u32) -> ([Slot<'_>; 16], &[Element])
     requires elements { AreElements first (2 ^ 32) elements.now }
     requires room { first + 16 < 2 ^ 32 }
@@ -181,14 +169,14 @@ fn block_slots(elements: &[Element], first: u32) -> ([Slot<'_>; 16], &[Element])
     let mut slots = [None; 16];
     let mut rest = elements;
     for i in 0..16u32 {
-        let (slot, behind) = next_slot(rest, first + i);
+        let (slot, after) = next_slot(rest, first + i);
         slots[i as usize] = slot;
-        rest = behind;
+        rest = after;
     }
     (slots, rest)
 }
 
-/// The block index, of so many entries, and the blocks behind it.
+/// The block index, of so many entries, and the blocks after it.
 fn lay_out(alloc: Global, count: u32, elements: &[Element]) -> Result<(Vec<u8>, Vec<u8>), NoMemory>
     requires elements { AreElements 0 (2 ^ 32) elements.now }
     requires few { count < 2 ^ 22 }
@@ -200,11 +188,11 @@ fn lay_out(alloc: Global, count: u32, elements: &[Element]) -> Result<(Vec<u8>, 
     let mut body = Vec::new(alloc);
     let mut rest = elements;
     for k in 0..count {
-        let (slots, behind) = block_slots(rest, 16 * k);
+        let (slots, after) = block_slots(rest, BLOCK_SIZE * k);
         let place = 4 * count + body.len() as u32;
         index.extend_from_slice(&place.to_le_bytes())?;
         put_block(&mut body, &slots)?;
-        rest = behind;
+        rest = after;
     }
     Ok((index, body))
 }
@@ -218,7 +206,7 @@ pub fn write_sparse(alloc: Global, count: u32, elements: &[Element]) -> Result<V
     // Whatever follows, the array that is read there has exactly the elements.
     ensures holds { IfOk result (λ v. (rest : List ℕ) → HoldsElements (v.items ++ rest) count elements.now) }
 {
-    let (index, body) = lay_out(alloc, count.div_ceil(16), elements)?;
+    let (index, body) = lay_out(alloc, count.div_ceil(BLOCK_SIZE), elements)?;
     let mut out = Vec::new(alloc);
     write_uint(&mut out, 4 * count + 2)?;
     out.extend_from_slice(&index)?;

@@ -71,6 +71,25 @@ pub fn read_uint(bytes: &[u8], at: u32) -> Option<(u32, u32)>
     uint_from(bytes, at)
 }
 
+/// How many bytes the shortest spelling of a native integer has. A number from 2^32 on has no spelling, and 5 bytes here.
+#[tactic(auto, unfolding(crate::specs::Uint::short_uint))]
+pub fn uint_len(value: u64) -> u64
+    ensures exact { result ≡ length (short_uint value) }
+    ensures most { result ≤ 5 }
+{
+    if value < 1 << 7 {
+        1
+    } else if value < 1 << 14 {
+        2
+    } else if value < 1 << 21 {
+        3
+    } else if value < 1 << 28 {
+        4
+    } else {
+        5
+    }
+}
+
 /// Appends the shortest spelling of a native integer. An `Err` leaves `out` as it was.
 #[tactic(auto, unfolding(crate::specs::Uint::short_uint))]
 pub fn write_uint(out: &mut Vec<u8>, value: u32) -> Result<(), NoMemory>
@@ -102,7 +121,7 @@ pub fn no_spelling_begins_another()
 pub fn shortest_spelling()
     ensures spells { (v : ℕ) → v < 2 ^ 32 → IsUint v (short_uint v) }
     ensures shortest { (v : ℕ) (s : List ℕ) → ((i : ℕ) → slice_index s i < 256) → IsUint v s → length (short_uint v) ≤ length s }
-    // It is read again behind whatever bytes, and whatever follows.
+    // It is read again after whatever bytes, and whatever follows.
     ensures read_back { (v : ℕ) (before rest : List ℕ) → v < 2 ^ 32
         → IsUintBetween (before ++ short_uint v ++ rest) (length before) v (length before + length (short_uint v)) }
 {}

@@ -5,6 +5,7 @@ use Rattle.rtr_bytes.specs.declared.fault.Fault.{Fault}
 use Rattle.rtr_bytes.specs.declared.fault.Span.{Span}
 use Rattle.rtr_bytes.specs.Checks.{fault_or, first_fault}
 use Rattle.pe_image.specs.Headers.{native_of}
+use Rattle.native_format.specs.Laws.{WrittenIsRead}
 use Rattle.rtr_sections.specs.declared.entries.EntryPoint.{EntryPoint}
 use Rattle.rtr_sections.specs.declared.functions.Function.{Function}
 use Rattle.rtr_sections.specs.declared.header.RtrHeader.{RtrHeader}
@@ -33,8 +34,8 @@ passes n true true o others e h = rw e h
 passes n true false o others e h = h
 passes n false own o others e h = h
 
-pub well_formed : (file : List ℕ) (plan : Image) (at rows : ℕ) → IsPlan plan at → FitsTypes plan → Carries file plan at rows → first_fault (rtr_checks rows) file ≡ None
-well_formed file plan at rows p f c =
+pub well_formed : WrittenIsRead → (file : List ℕ) (plan : Image) (at rows : ℕ) → IsPlan plan at → FitsTypes plan → Carries file plan at rows → first_fault (rtr_checks rows) file ≡ None
+well_formed laws file plan at rows p f c =
     let native : is_some (native_of file) ≡ true = ap (λ (t : Option Span). is_some t) c.native in
     let n = is_some (native_of file) in
     let o = is_own file in
@@ -42,9 +43,9 @@ well_formed file plan at rows p f c =
     ∙ passes 60 n o (foreign_import file (part_of file 101)) _ (forms_own file plan at rows p f c)
     (passes 61 n o (first_bad_of file (imports_in file (part_of file 101))) _ (slots_good file plan at rows p f c)
     (passes 62 n o (bad_function file (part_of file 102)) _ (functions_good file plan at rows p f c)
-    (passes 63 n o (bad_array rows file (part_of file 103)) _ (array_good file plan at rows p f c)
-    (passes 64 n o (first_cut file (part_of file 103)) _ (paths_good file plan at rows p f c)
-    (passes 65 n o (first_unlinked file (part_of file 103) (part_of file 101) (function_count (part_of file 102))) _ (entries_linked file plan at rows p f c)
+    (passes 63 n o (bad_array rows file (part_of file 103)) _ (array_good laws file plan at rows p f c)
+    (passes 64 n o (first_cut file (part_of file 103)) _ (paths_good laws file plan at rows p f c)
+    (passes 65 n o (first_unlinked file (part_of file 103) (part_of file 101) (function_count (part_of file 102))) _ (entries_linked laws file plan at rows p f c)
     (passes 66 n o (out_of_order file (part_of file 101)) None (cells_in_order file plan at rows p f c) refl))))))
 
 same_image : (header other : RtrHeader) (imports imports' : List ImportSection) (slots slots' : List Slot) (functions functions' : List Function) (entries entries' : List EntryPoint) (own own' : Bool)
@@ -57,11 +58,11 @@ own_image : (own : Bool) (a b c : Image) → own ≡ true → a ≡ c → cond o
 own_image true a b c h e = e
 own_image false a b c h e = absurd (let x : ⊥ = cc in x)
 
-pub image_back : (file : List ℕ) (plan : Image) (at rows : ℕ) → IsPlan plan at → FitsTypes plan → Carries file plan at rows → image_of file ≡ back_image plan at (native_at file)
+pub image_back : WrittenIsRead → (file : List ℕ) (plan : Image) (at rows : ℕ) → IsPlan plan at → FitsTypes plan → Carries file plan at rows → image_of file ≡ back_image plan at (native_at file)
 unfolding image_of own_image_of back_image
-image_back file plan at rows p f c =
+image_back laws file plan at rows p f c =
     let own = own_back file plan at rows p f c in
     own_image (is_own file) (own_image_of file) (foreign_image_of file) (back_image plan at (native_at file)) own
     (same_image (rtr_header_of file) (back_image plan at (native_at file)).header (imports_in file (part_of file 101)) (written_imports plan at) (all_slots file (imports_in file (part_of file 101))) plan.slots
     (functions_in file (part_of file 102)) plan.functions (entries_in file (part_of file 103)) plan.entries (is_own file) true
-    (header_back file plan at rows p f c) (imports_back file plan at rows p f c) (slots_back file plan at rows p f c) (functions_back file plan at rows p f c) (entries_back file plan at rows p f c) own)
+    (header_back file plan at rows p f c) (imports_back file plan at rows p f c) (slots_back file plan at rows p f c) (functions_back file plan at rows p f c) (entries_back laws file plan at rows p f c) own)

@@ -10,7 +10,7 @@ use Rattle.pe_image.specs.Places.{dat_rva}
 use Rattle.pe_image.specs.Written.{HeaderField}
 use Rattle.pe_image.proofs.ReadBack.{same_field}
 use Rattle.rtr_sections.specs.declared.image.Image.{Image}
-use Rattle.rtr_sections.specs.Parts.{header_span, highest_row, rtr_bytes, thunks_of}
+use Rattle.rtr_sections.specs.Parts.{header_span, highest_row, part_bytes, thunks_of}
 use Rattle.rtr_sections.specs.Written.{Carries, IsPlaced, IsWrittenBehind}
 use Rattle.rtr_sections.proofs.Stands.{Stands, stands_front}
 
@@ -36,7 +36,7 @@ carried sections bytes dat cod cli plan file rows b code thunks enough =
     let low = b.cli_inside.0 in
     let high = b.cli_inside.1 in
     record {
-      stands = stands_front file at (rtr_bytes plan at) b.more (subst (λ (t : List ℕ). Stands file at t) b.begins b.found);
+      stands = stands_front file at (part_bytes plan at) b.more (subst (λ (t : List ℕ). Stands file at t) b.begins b.found);
       machine = ap (λ (t : Option ℕ). u16_of file (unwrap_or t 0 + 4)) signature ∙ ap (λ (t : Option ℕ). unwrap_or t 0) machine;
       native = native_copied file dat start (header_span plan at) (omega arith) b.cli_header.1 b.native_rva b.native_size (λ none. absurd (let x : ⊥ = omega arith in x));
       code = code;

@@ -3,16 +3,14 @@ use Rattle.std.proofs.Common.{◌≡◌, ℕ, ◌+◌, ◌*◌, ◌^◌, ◌<◌
 use Rattle.std.specs.List.{AllByRecursion, flat_map}
 use Rattle.std.specs.Option.{option_map}
 use Rattle.std.proofs.lemmas.Bool.{le-leb, ne_eqb}
-use Rattle.std.proofs.lemmas.List.{append-nil, length-append}
+use Rattle.std.proofs.lemmas.List.{append-nil}
 use Rattle.std.proofs.lemmas.List.Elements.{recursion_from_All}
 use Rattle.rtr_bytes.specs.declared.fault.Span.{Span}
 use Rattle.native_format.specs.declared.nibbles.SlotRef.{SlotRef}
 use Rattle.native_format.specs.Nibbles.{FitsWords}
+use Rattle.native_format.specs.Laws.{WrittenIsRead}
 use Rattle.native_format.specs.Sparse.{element_of}
 use Rattle.native_format.specs.SparseBytes.{HoldsElements, sparse_bytes}
-use Rattle.native_format.specs.Uint.{short_uint}
-use Rattle.native_format.proofs.SparseWritten.{holds}
-use Rattle.native_format.proofs.UintLaws.{short_len, size_some}
 use Rattle.rtr_sections.specs.declared.entries.EntryPoint.{EntryPoint}
 use Rattle.rtr_sections.specs.declared.image.Image.{Image}
 use Rattle.rtr_sections.specs.Entries.{array_in, bad_array, bytes_in, cut_place, entries_in, entries_of, entry_of, first_cut, first_cut_of, first_unlinked, first_unlinked_of, is_linked, names_slot, unlinked_place}
@@ -30,34 +28,31 @@ use Rattle.rtr_sections.proofs.Stands.{IsPart, are_parts, end-is}
 
 -- ---- the array of a section whose bytes are those of the entries
 
-some_front : (v : ℕ) (rest : List ℕ) → 1 ≤ length (short_uint v ++ rest)
-some_front v rest = omega (arith, length-append (short_uint v) rest, short_len v, size_some v)
+bytes_some : WrittenIsRead → (entries : List EntryPoint) → 1 ≤ length (entry_bytes entries)
+unfolding entry_bytes
+bytes_some laws entries = laws.some (highest_row entries) (map element_of_entry entries)
 
-bytes_some : (entries : List EntryPoint) → 1 ≤ length (entry_bytes entries)
-unfolding entry_bytes sparse_bytes
-bytes_some entries = some_front (4 * highest_row entries + 2) _
-
-held : (bytes : List ℕ) (entries : List EntryPoint) → bytes ≡ entry_bytes entries → RowsAscend 1 entries
+held : WrittenIsRead → (bytes : List ℕ) (entries : List EntryPoint) → bytes ≡ entry_bytes entries → RowsAscend 1 entries
     → length (entry_bytes entries) < 2 ^ 24 → HoldsElements bytes (highest_row entries) (map element_of_entry entries)
 unfolding entry_bytes
-held bytes entries is rows small =
+held laws bytes entries is rows small =
     let count = highest_row entries in
     let es = map element_of_entry entries in
     let whole : sparse_bytes count es ++ [] ≡ bytes = append-nil (sparse_bytes count es) ∙ sym is in
-    subst (λ (t : List ℕ). HoldsElements t count es) whole (holds count es [] (are_elements 0 count entries rows (omega arith)) small)
+    subst (λ (t : List ℕ). HoldsElements t count es) whole (laws.arrays count es [] (are_elements 0 count entries rows (omega arith)) small)
 
 record IsArray (file : List ℕ) (part : Span) (entries : List EntryPoint) : Type 0 where
   pub some : part.len ≡ 0 → ⊥
   pub has : HasEntries file part entries
 
-is_array : (file : List ℕ) (part : Span) (entries : List EntryPoint) → part.len ≡ length (entry_bytes entries)
+is_array : WrittenIsRead → (file : List ℕ) (part : Span) (entries : List EntryPoint) → part.len ≡ length (entry_bytes entries)
     → take (length (entry_bytes entries)) (drop part.start file) ≡ entry_bytes entries
     → RowsAscend 1 entries → length (entry_bytes entries) < 2 ^ 24 → AllByRecursion IsReadable entries → IsArray file part entries
-is_array file part entries len same rows small readable =
+is_array laws file part entries len same rows small readable =
     let bytes_are : bytes_in file part ≡ entry_bytes entries = ap (λ (n : ℕ). take n (drop part.start file)) len ∙ same in
     let array : HoldsElements (bytes_in file part) (highest_row entries) (map element_of_entry entries) =
-    held (bytes_in file part) entries bytes_are rows small in
-    record { some = λ none. omega (arith, len, none, bytes_some entries); has = has_entries file part entries rows readable array }
+    held laws (bytes_in file part) entries bytes_are rows small in
+    record { some = λ none. omega (arith, len, none, bytes_some laws entries); has = has_entries laws file part entries rows readable array }
 
 array_is : (file : List ℕ) (part : Span) (entries : List EntryPoint) → (a : IsArray file part entries) → array_in file part ≡ Some a.has.array
 array_is file part entries a = rw (ne_eqb _ _ a.some) a.has.is_there
@@ -117,11 +112,11 @@ readable plan at p f = recursion_from_All IsReadable plan.entries (λ k d lt.
       words = recursion_from_All FitsWords _ (f.entries k d lt);
     })
 
-arrayed : (file : List ℕ) (plan : Image) (at rows : ℕ) → IsPlan plan at → FitsTypes plan → Carries file plan at rows
+arrayed : WrittenIsRead → (file : List ℕ) (plan : Image) (at rows : ℕ) → IsPlan plan at → FitsTypes plan → Carries file plan at rows
     → IsArray file (part_of file 103) plan.entries
-arrayed file plan at rows p f c =
+arrayed laws file plan at rows p f c =
     let part = entries_part file plan at rows p f c in
-    is_array file (part_of file 103) plan.entries part.len part.bytes p.planned.rows (few_bytes plan at p) (readable plan at p f)
+    is_array laws file (part_of file 103) plan.entries part.len part.bytes p.planned.rows (few_bytes plan at p) (readable plan at p f)
 
 named : (file : List ℕ) (plan : Image) (at : ℕ) (r : SlotRef) → FitsTypes plan
     → IsPart file 101 (flat_map import_bytes (written_imports plan at)) → Names plan.imports r.section r.slot
@@ -142,20 +137,20 @@ linked file plan at rows p f c =
     (all_pass (λ r. Names plan.imports r.section r.slot) (names_slot file (part_of file 101)) _ (recursion_from_All _ _ e.slots)
     (λ r names. named file plan at r f imports names)))
 
-pub entries_back : (file : List ℕ) (plan : Image) (at rows : ℕ) → IsPlan plan at → FitsTypes plan → Carries file plan at rows
+pub entries_back : WrittenIsRead → (file : List ℕ) (plan : Image) (at rows : ℕ) → IsPlan plan at → FitsTypes plan → Carries file plan at rows
     → entries_in file (part_of file 103) ≡ plan.entries
-entries_back file plan at rows p f c = all_entries file (part_of file 103) plan.entries p.planned.rows (arrayed file plan at rows p f c)
+entries_back laws file plan at rows p f c = all_entries file (part_of file 103) plan.entries p.planned.rows (arrayed laws file plan at rows p f c)
 
-pub array_good : (file : List ℕ) (plan : Image) (at rows : ℕ) → IsPlan plan at → FitsTypes plan → Carries file plan at rows
+pub array_good : WrittenIsRead → (file : List ℕ) (plan : Image) (at rows : ℕ) → IsPlan plan at → FitsTypes plan → Carries file plan at rows
     → bad_array rows file (part_of file 103) ≡ None
-array_good file plan at rows p f c = few_rows file (part_of file 103) plan.entries rows c.enough_rows (arrayed file plan at rows p f c)
+array_good laws file plan at rows p f c = few_rows file (part_of file 103) plan.entries rows c.enough_rows (arrayed laws file plan at rows p f c)
 
-pub paths_good : (file : List ℕ) (plan : Image) (at rows : ℕ) → IsPlan plan at → FitsTypes plan → Carries file plan at rows
+pub paths_good : WrittenIsRead → (file : List ℕ) (plan : Image) (at rows : ℕ) → IsPlan plan at → FitsTypes plan → Carries file plan at rows
     → first_cut file (part_of file 103) ≡ None
-paths_good file plan at rows p f c = none_cut file (part_of file 103) plan.entries (arrayed file plan at rows p f c)
+paths_good laws file plan at rows p f c = none_cut file (part_of file 103) plan.entries (arrayed laws file plan at rows p f c)
 
-pub entries_linked : (file : List ℕ) (plan : Image) (at rows : ℕ) → IsPlan plan at → FitsTypes plan → Carries file plan at rows
+pub entries_linked : WrittenIsRead → (file : List ℕ) (plan : Image) (at rows : ℕ) → IsPlan plan at → FitsTypes plan → Carries file plan at rows
     → first_unlinked file (part_of file 103) (part_of file 101) (function_count (part_of file 102)) ≡ None
-entries_linked file plan at rows p f c =
+entries_linked laws file plan at rows p f c =
     all_linked file (part_of file 103) (part_of file 101) (function_count (part_of file 102)) plan.entries (linked file plan at rows p f c)
-    (arrayed file plan at rows p f c)
+    (arrayed laws file plan at rows p f c)

@@ -6,6 +6,7 @@ use Rattle.std.proofs.lemmas.Bool.{cases_eq, eq-eqb, eqb-true, ne_eqb}
 use Rattle.std.proofs.lemmas.Option.{none-some, same_Some}
 use Rattle.rtr_bytes.specs.declared.fault.Span.{Span}
 use Rattle.native_format.specs.Nibbles.{FitsWords}
+use Rattle.native_format.specs.Laws.{WrittenIsRead}
 use Rattle.native_format.specs.Sparse.{Answer, Array, array_at, element_of}
 use Rattle.native_format.specs.SparseBytes.{AreElements, Finds, HoldsElements}
 use Rattle.native_format.specs.SparseBytes as elements
@@ -34,8 +35,8 @@ mapped true e o p h = refl
 mapped false e o p h = h
 
 content_is : (entries : Entries) (index : ℕ)
-    → elements.content_of (map element_of_entry entries) index ≡ option_map content (entry_of_index entries index)
-unfolding elements.content_of
+    → elements.content_by_index (map element_of_entry entries) index ≡ option_map content (entry_of_index entries index)
+unfolding elements.content_by_index
 content_is [] index = refl
 content_is (e ∷ es) index = mapped (eqb (e.row - 1) index) e (entry_of_index es index) _ (content_is es index)
 
@@ -79,17 +80,17 @@ abbrev pub Reads : List ℕ → Span → ℕ → Answer → Option EntryPoint �
 Reads file part index answer None = answer ≡ Ok None
 Reads file part index answer (Some e) = (place : ℕ) × (answer ≡ Ok (Some place)) × (entry_at file part (index + 1) place ≡ Some e)
 
-reads : (file : List ℕ) (part : Span) (index : ℕ) (answer : Answer) (o : Option EntryPoint)
+reads : WrittenIsRead → (file : List ℕ) (part : Span) (index : ℕ) (answer : Answer) (o : Option EntryPoint)
     → ((e : EntryPoint) → o ≡ Some e → IsReadable e × (e.row ≡ index + 1))
     → Finds (bytes_in file part) answer (option_map content o) → Reads file part index answer o
-reads file part index answer None has found = found
-reads file part index answer (Some e) has found =
+reads laws file part index answer None has found = found
+reads laws file part index answer (Some e) has found =
     let h = has e refl in
     let r = h.0 in
     let row : index + 1 ≡ e.row = sym h.1 in (
       found.0,
       found.1,
-      entry_read file part (index + 1) e.function found.0 e.fixups r.function r.ascending r.words found.2
+      entry_read laws file part (index + 1) e.function found.0 e.fixups r.function r.ascending r.words found.2
           ∙ ap (λ (n : ℕ). Some (made n e.function e.fixups)) row,
     )
 
@@ -100,13 +101,13 @@ pub record HasEntries (file : List ℕ) (part : Span) (entries : Entries) : Type
   pub count : array.count ≡ highest_row entries
   pub each : (index : ℕ) → Reads file part index (element_of array index) (entry_of_index entries index)
 
-pub has_entries : (file : List ℕ) (part : Span) (entries : Entries) → RowsAscend 1 entries → AllByRecursion IsReadable entries
+pub has_entries : WrittenIsRead → (file : List ℕ) (part : Span) (entries : Entries) → RowsAscend 1 entries → AllByRecursion IsReadable entries
     → HoldsElements (bytes_in file part) (highest_row entries) (map element_of_entry entries) → HasEntries file part entries
-has_entries file part entries rows readable h = record {
+has_entries laws file part entries rows readable h = record {
   array = h.array;
   is_there = h.is_there;
   count = h.count_is;
-  each = λ index. reads file part index (element_of h.array index) (entry_of_index entries index)
+  each = λ index. reads laws file part index (element_of h.array index) (entry_of_index entries index)
       (λ e found. (
         found_has IsReadable entries index e readable found,
         row_of e index (found_has (λ x. 1 ≤ x.row) entries index e (rows_some 0 entries rows) found) (found_index entries index e found),

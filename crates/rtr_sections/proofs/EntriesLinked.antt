@@ -15,7 +15,7 @@ use Rattle.rtr_sections.specs.Entries.{is_linked, names_slot}
 use Rattle.rtr_sections.specs.Imports.{slot_count}
 use Rattle.rtr_sections.specs.Parts.{import_bytes, placed_imports}
 use Rattle.rtr_sections.specs.Plan.{Names}
-use Rattle.rtr_sections.proofs.Stands.{number_in}
+use Rattle.rtr_sections.proofs.Stands.{number_stands}
 
 abbrev Imports : Type 0
 Imports = List ImportSection
@@ -95,7 +95,7 @@ slot_named file part cells arrays imports r sized len inside same names =
     let counted : r.section < part.len / 20 = omega (arith, len, total, h.0) in
     let place : part.start + length s.front ≡ part.start + 20 * r.section + 4 = omega (arith, s.place) in
     let read : field_at 4 file (part.start + 20 * r.section + 4) ≡ Some s.size =
-    ap (field_at 4 file) (sym place) ∙ number_in 4 s.size file part.start s.front s.behind piece s.bytes_are (inside some) same s.fits in
+    ap (field_at 4 file) (sym place) ∙ number_stands 4 s.size file part.start s.front s.behind piece s.bytes_are (inside some) same s.fits in
     rw (lt-ltb _ _ counted, read, lt-ltb _ _ s.enough) refl
 
 -- ---- an entry

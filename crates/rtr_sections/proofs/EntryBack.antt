@@ -6,11 +6,10 @@ use Rattle.std.proofs.lemmas.Bool.{eq-eqb, ne_eqb}
 use Rattle.std.proofs.lemmas.List.{drop_at, drop-drop, length-append, take-append-drop}
 use Rattle.rtr_bytes.specs.declared.fault.Span.{Span}
 use Rattle.native_format.specs.declared.nibbles.SlotRef.{SlotRef}
-use Rattle.native_format.specs.Nibbles.{BeginsWithList, FitsWords, IsSlotList, list_at, list_bytes}
+use Rattle.native_format.specs.Nibbles.{FitsWords, IsSlotList, list_at, list_bytes}
 use Rattle.native_format.specs.SparseBytes.{StandsAt}
 use Rattle.native_format.specs.Uint.{short_uint, uint_at}
-use Rattle.native_format.proofs.SlotLaws.{is_read, is_written}
-use Rattle.native_format.proofs.TreeLaws.{uint_written}
+use Rattle.native_format.specs.Laws.{WrittenIsRead}
 use Rattle.rtr_sections.specs.declared.entries.EntryPoint.{EntryPoint}
 use Rattle.rtr_sections.specs.Entries.{bytes_in, entry_at, entry_of_id, entry_point, fixups_of_id, function_of_id}
 use Rattle.rtr_sections.specs.Parts.{content_of_entry}
@@ -66,28 +65,27 @@ in_file file front piece behind start len place is at =
     ∙ ap (λ (t : List ℕ). front ++ t) (append_assoc piece behind rest) in
     sym (drop-drop place start file) ∙ ap (drop place) whole ∙ drop_at front (piece ++ (behind ++ rest)) place (sym at)
 
-list_read : (file front behind : List ℕ) (start len place : ℕ) (list : List SlotRef) → IsSlotList list → AllByRecursion FitsWords list
+list_read : WrittenIsRead → (file front behind : List ℕ) (start len place : ℕ) (list : List SlotRef) → IsSlotList list → AllByRecursion FitsWords list
     → take len (drop start file) ≡ front ++ (list_bytes list ++ behind) → place ≡ length front → list_at file (start + place) ≡ Some list
-list_read file front behind start len place list ascending fit is at =
+list_read laws file front behind start len place list ascending fit is at =
     let there : drop (start + place) file ≡ list_bytes list ++ (behind ++ drop len (drop start file)) =
     in_file file front (list_bytes list) behind start len place is at in
-    is_read file (start + place) list fit (subst (λ (t : List ℕ). BeginsWithList t list) (sym there)
-    (is_written list (behind ++ drop len (drop start file)) ascending))
+    laws.lists list file (behind ++ drop len (drop start file)) (start + place) ascending fit there
 
 -- ---- the entry
 
-id_read : (bytes front behind : List ℕ) (id place : ℕ) → bytes ≡ front ++ (short_uint id ++ behind) → place ≡ length front → id < 2 ^ 32
+id_read : WrittenIsRead → (bytes front behind : List ℕ) (id place : ℕ) → bytes ≡ front ++ (short_uint id ++ behind) → place ≡ length front → id < 2 ^ 32
     → uint_at bytes place ≡ Some (id, place + length (short_uint id))
-id_read bytes front behind id place is at small =
-    rw (is, at) (uint_written front behind id small)
+id_read laws bytes front behind id place is at small =
+    rw (is, at) (laws.integers id front behind small)
 
-pub entry_read : (file : List ℕ) (part : Span) (row function place : ℕ) (fixups : List SlotRef) → function < 2 ^ 24 → SlotsAscend fixups
+pub entry_read : WrittenIsRead → (file : List ℕ) (part : Span) (row function place : ℕ) (fixups : List SlotRef) → function < 2 ^ 24 → SlotsAscend fixups
     → AllByRecursion FitsWords fixups
     → StandsAt (bytes_in file part) place (content_of_entry function fixups) → entry_at file part row place ≡ Some (made row function fixups)
-entry_read file part row function place [] small ascend fit s =
-    by_id file part row place (2 * function) _ (id_read (bytes_in file part) s.front s.behind (2 * function) place s.bytes_are s.place_is (omega arith))
+entry_read laws file part row function place [] small ascend fit s =
+    by_id file part row place (2 * function) _ (id_read laws (bytes_in file part) s.front s.behind (2 * function) place s.bytes_are s.place_is (omega arith))
     ∙ of_id file part row (2 * function) _ function [] (bare_function function) (bare_list file part function _)
-entry_read file part row function place (slot ∷ slots) small ascend fit s =
+entry_read laws file part row function place (slot ∷ slots) small ascend fit s =
     let list = slot ∷ slots in
     let id = short_uint (4 * function + 1) in
     let flat : bytes_in file part ≡ s.front ++ (id ++ (list_bytes list ++ s.behind)) =
@@ -96,7 +94,7 @@ entry_read file part row function place (slot ∷ slots) small ascend fit s =
     flat ∙ sym (append_assoc s.front id (list_bytes list ++ s.behind)) in
     let place_is : place ≡ length s.front = s.place_is in
     let next : place + length id ≡ length (s.front ++ id) = omega (arith, length-append s.front id) in
-    by_id file part row place (4 * function + 1) _ (id_read (bytes_in file part) s.front (list_bytes list ++ s.behind)
+    by_id file part row place (4 * function + 1) _ (id_read laws (bytes_in file part) s.front (list_bytes list ++ s.behind)
     (4 * function + 1) place flat s.place_is (omega arith))
     ∙ of_id file part row (4 * function + 1) (place + length id) function list (listed_function function)
-    (own_list file part function (place + length id) ∙ list_read file (s.front ++ id) s.behind part.start part.len (place + length id) list ascend fit behind_id next)
+    (own_list file part function (place + length id) ∙ list_read laws file (s.front ++ id) s.behind part.start part.len (place + length id) list ascend fit behind_id next)

@@ -13,7 +13,7 @@ use Rattle.rtr_sections.specs.declared.functions.Function.{Function}
 use Rattle.rtr_sections.specs.declared.image.Image.{Image}
 use Rattle.rtr_sections.specs.Functions.{bad_function, end_before, end_of, function_at, function_count, function_holds, functions_in, holds_behind, is_function, unwind_place}
 use Rattle.rtr_sections.specs.Header.{part_of}
-use Rattle.rtr_sections.specs.Parts.{function_bytes, parts_of, rtr_bytes, unwind_bytes}
+use Rattle.rtr_sections.specs.Parts.{function_bytes, parts_of, part_bytes, unwind_bytes}
 use Rattle.rtr_sections.specs.Plan.{AreInOrder, IsPlan}
 use Rattle.rtr_sections.specs.Written.{Carries}
 use Rattle.rtr_sections.proofs.Types.{FitsTypes}
@@ -125,7 +125,7 @@ plan_entries file plan at rows p f c =
     let piece = function_bytes unwinds plan.functions in
     let len = length-function_bytes unwinds plan.functions in
     let parts = are_parts plan in
-    let small : length (rtr_bytes plan at) < 2 ^ 24 = p.small in
+    let small : length (part_bytes plan at) < 2 ^ 24 = p.small in
     let low : at ≤ 2 ^ 31 = p.low in
     let long : 0 < length plan.functions → place + 8 * length plan.functions ≤ length file = λ some. omega (arith, part.inside (omega arith)) in
     entries_found plan.functions file (drop (length piece) (drop place file)) place unwinds long (begins_with file place piece part.bytes)

@@ -17,7 +17,7 @@ use Rattle.rtr_sections.specs.declared.header.RtrSection.{RtrSection}
 use Rattle.rtr_sections.specs.declared.header.RtrHeader.{RtrHeader}
 use Rattle.rtr_sections.specs.declared.image.Image.{Image}
 use Rattle.rtr_sections.specs.Header.{ascends, header_checks, identifier, if_native, imports_are_whole, is_identifier, is_own, is_own_kind, native_at, native_rva, part_at, part_of, range_is_placed, record_count, records_at, records_place, rtr_header_of, rtr_section_at, rtr_sections_of}
-use Rattle.rtr_sections.specs.Parts.{entry_bytes, function_bytes, header_bytes, import_bytes, parts_of, rtr_bytes, section, section_bytes, thunks_of, written_imports, written_sections}
+use Rattle.rtr_sections.specs.Parts.{entry_bytes, function_bytes, header_bytes, import_bytes, parts_of, part_bytes, section, section_bytes, thunks_of, written_imports, written_sections}
 use Rattle.rtr_sections.specs.Plan.{IsPlan}
 use Rattle.rtr_sections.specs.Written.{Carries, IsPlaced, back_image}
 use Rattle.rtr_sections.proofs.Types.{FitsTypes}
@@ -292,7 +292,7 @@ unfolding written_sections
 sections_fit file plan at rows p f =
     let parts = are_parts plan in
     let end = end-is plan at in
-    let small : length (rtr_bytes plan at) < 2 ^ 24 = p.small in
+    let small : length (part_bytes plan at) < 2 ^ 24 = p.small in
     let low : at ≤ 2 ^ 31 = p.low in
     let thunks : ThunksFit (thunks_of plan.header.sections) =
     found_fits ThunksFit (λ s. s.kind == 106) (section 106 0 0) (omega arith, omega arith) plan.header.sections f.sections in (

@@ -12,7 +12,7 @@ use Rattle.rtr_sections.specs.declared.image.Image.{Image}
 use Rattle.rtr_sections.specs.declared.imports.ImportSection.{ImportSection}
 use Rattle.rtr_sections.specs.Header.{part_of}
 use Rattle.rtr_sections.specs.Imports.{array_place, cells_are_placed, follows, foreign_import, has_own_form, import_at, import_count, imports_in, out_of_order, slot_count, unplaced_cells}
-use Rattle.rtr_sections.specs.Parts.{import_bytes, parts_of, placed_imports, rtr_bytes, written_imports}
+use Rattle.rtr_sections.specs.Parts.{import_bytes, parts_of, placed_imports, part_bytes, written_imports}
 use Rattle.rtr_sections.specs.Plan.{HasWrittenForm, IsPlan}
 use Rattle.rtr_sections.specs.Written.{Carries}
 use Rattle.rtr_sections.proofs.Types.{FitsTypes}
@@ -98,10 +98,10 @@ pub record Room (plan : Image) (at : ℕ) : Type 0 where
   pub types : HaveTypes plan.imports
   pub cells : sizes plan.imports ≡ 8 * length plan.slots
   pub slots : counts plan.imports ≡ length plan.slots
-  pub arrays : (parts_of plan).arrays + 4 * length plan.slots ≤ length (rtr_bytes plan at)
-  pub front : 8 * length plan.slots ≤ length (rtr_bytes plan at)
-  pub some : 0 < length (rtr_bytes plan at)
-  pub high : at + length (rtr_bytes plan at) < 2 ^ 32
+  pub arrays : (parts_of plan).arrays + 4 * length plan.slots ≤ length (part_bytes plan at)
+  pub front : 8 * length plan.slots ≤ length (part_bytes plan at)
+  pub some : 0 < length (part_bytes plan at)
+  pub high : at + length (part_bytes plan at) < 2 ^ 32
 
 pub header-is : (plan : Image) → (parts_of plan).header ≡ 8 * length plan.slots
 unfolding parts_of
@@ -189,7 +189,7 @@ cells_found file whole at off cells arrays (i ∷ is) stands some here within = 
 cells_all : (file : List ℕ) (plan : Image) (at rows : ℕ) → Room plan at → Carries file plan at rows → AllByRecursion (λ i. has_cells file i ≡ true) (written_imports plan at)
 unfolding written_imports
 cells_all file plan at rows r c =
-    cells_found file (rtr_bytes plan at) at 0 at (at + (parts_of plan).arrays) plan.imports c.stands r.some (omega arith) (omega (arith, r.cells, r.front))
+    cells_found file (part_bytes plan at) at 0 at (at + (parts_of plan).arrays) plan.imports c.stands r.some (omega arith) (omega (arith, r.cells, r.front))
 
 pub cells_placed : (file : List ℕ) (plan : Image) (at rows : ℕ) → IsPlan plan at → FitsTypes plan → Carries file plan at rows → unplaced_cells file (part_of file 101) ≡ None
 unfolding unplaced_cells has_cells
@@ -215,7 +215,7 @@ forms_found file whole at off cells arrays (i ∷ is) stands some (form, forms) 
 forms_all : (file : List ℕ) (plan : Image) (at rows : ℕ) → Room plan at → Carries file plan at rows → AllByRecursion (λ i. own_form file i ≡ true) (written_imports plan at)
 unfolding written_imports
 forms_all file plan at rows r c =
-    forms_found file (rtr_bytes plan at) at (parts_of plan).arrays at (at + (parts_of plan).arrays) plan.imports c.stands r.some r.forms refl (omega (arith, r.slots, r.arrays))
+    forms_found file (part_bytes plan at) at (parts_of plan).arrays at (at + (parts_of plan).arrays) plan.imports c.stands r.some r.forms refl (omega (arith, r.slots, r.arrays))
 
 pub forms_own : (file : List ℕ) (plan : Image) (at rows : ℕ) → IsPlan plan at → FitsTypes plan → Carries file plan at rows → foreign_import file (part_of file 101) ≡ None
 unfolding foreign_import own_form

@@ -4,7 +4,6 @@ pub mod Numbered
 pub mod CodeEnds
 pub mod SlotsRead
 pub mod BadWords
-pub mod FixupLaws
 pub mod EntriesRead
 pub mod AllChecks
 pub mod Types
@@ -19,8 +18,7 @@ pub mod EntriesFound
 pub mod EntriesLinked
 pub mod EntriesBack
 pub mod Back
-pub mod ArrayBounds
-pub mod Bounds
+pub mod Lengths
 pub mod Carried
 pub mod Spellable
 pub mod PutLemmas

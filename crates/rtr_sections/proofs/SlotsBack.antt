@@ -14,7 +14,7 @@ use Rattle.fixup_sigs.proofs.Written.{fixup_spelled}
 use Rattle.rtr_sections.specs.declared.image.Image.{Image}
 use Rattle.rtr_sections.specs.declared.imports.ImportSection.{ImportSection}
 use Rattle.rtr_sections.specs.declared.slots.Slot.{Slot}
-use Rattle.rtr_sections.specs.Fixups.{fixup_at}
+use Rattle.fixup_sigs.specs.Reading.{fixup_at}
 use Rattle.rtr_sections.specs.Header.{part_of}
 use Rattle.rtr_sections.specs.Imports.{all_slots, array_at, bad_word, cells_at, first_bad_of, first_bad_word, imports_in, slot_at, slot_count, slot_of, slots_in}
 use Rattle.rtr_sections.specs.Numbered.{first_bad, present}
@@ -22,7 +22,7 @@ use Rattle.rtr_sections.specs.Parts.{cell_bytes, parts_of, placed_imports, signa
 use Rattle.rtr_sections.specs.Plan.{IsPlan}
 use Rattle.rtr_sections.specs.Written.{Carries}
 use Rattle.rtr_sections.proofs.Types.{FitsTypes}
-use Rattle.rtr_sections.proofs.FixupLaws.{fixup_at-found}
+use Rattle.fixup_sigs.proofs.ReadingLaws.{fixup_at-found}
 use Rattle.rtr_sections.proofs.ImportsBack.{HaveForm, counts, header-is, imports_back, room}
 use Rattle.rtr_sections.proofs.RecordsBack.{all_of, drop_behind, field_here}
 use Rattle.rtr_sections.proofs.Stands.{Stands, are_parts, arrays_stand, cells_stand, end-is, length-arrays, length-cells, signatures_stand, stands_behind}

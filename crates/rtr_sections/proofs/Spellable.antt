@@ -19,12 +19,12 @@ use Rattle.fixup_sigs.specs.Shortest.{IsSpellable, IsSpellablePayload, IsSpellab
 use Rattle.rtr_sections.specs.declared.imports.ImportSection.{ImportSection}
 use Rattle.rtr_sections.specs.declared.slots.Slot.{Slot}
 use Rattle.rtr_sections.specs.declared.image.Image.{Image}
-use Rattle.rtr_sections.specs.Fixups.{fixup_at}
+use Rattle.fixup_sigs.specs.Reading.{fixup_at}
 use Rattle.rtr_sections.specs.Header.{part_of}
 use Rattle.rtr_sections.specs.Numbered.{present}
 use Rattle.rtr_sections.specs.Imports.{all_slots, array_at, cells_at, imports_in, slot_at, slot_count, slot_of, slots_in}
 use Rattle.rtr_sections.specs.Image.{own_image_of}
-use Rattle.rtr_sections.proofs.FixupLaws.{fixup_at-spelled}
+use Rattle.fixup_sigs.proofs.ReadingLaws.{fixup_at-spelled}
 
 -- ---- what has a spelling is spellable
 

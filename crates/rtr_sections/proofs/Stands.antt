@@ -14,7 +14,7 @@ use Rattle.rtr_sections.specs.declared.image.Image.{Image}
 use Rattle.rtr_sections.specs.declared.imports.ImportSection.{ImportSection}
 use Rattle.rtr_sections.specs.declared.slots.Slot.{Slot}
 use Rattle.rtr_sections.specs.Header.{identifier, part_of}
-use Rattle.rtr_sections.specs.Parts.{cell_bytes, entry_bytes, function_bytes, header_bytes, import_bytes, part_list, parts_of, placed_imports, rtr_bytes, signature_bytes_of, signature_rvas, unwind_bytes, words, written_imports, written_sections}
+use Rattle.rtr_sections.specs.Parts.{cell_bytes, entry_bytes, function_bytes, header_bytes, import_bytes, part_list, parts_of, placed_imports, part_bytes, signature_bytes_of, signature_rvas, unwind_bytes, words, written_imports, written_sections}
 use Rattle.rtr_sections.specs.Imports.{slot_count}
 use Rattle.fixup_sigs.specs.Shortest.{fixup_bytes}
 use Rattle.rtr_sections.specs.Written.{Carries}
@@ -95,10 +95,10 @@ pub begins_with : (file : List ℕ) (place : ℕ) (piece : List ℕ) → take (l
 begins_with file place piece same = sym (take-append-drop (length piece) (drop place file)) ∙ ap (λ (t : List ℕ). t ++ drop (length piece) (drop place file)) same
 
 -- a number in bytes that stand at a place of a file
-pub number_in : (k x : ℕ) (file : List ℕ) (place : ℕ) (front behind piece : List ℕ) → piece ≡ front ++ (little_bytes k x ++ behind)
+pub number_stands : (k x : ℕ) (file : List ℕ) (place : ℕ) (front behind piece : List ℕ) → piece ≡ front ++ (little_bytes k x ++ behind)
     → place + length piece ≤ length file → take (length piece) (drop place file) ≡ piece → x < 256 ^ k
     → field_at k file (place + length front) ≡ Some x
-number_in k x file place front behind piece is inside same fits =
+number_stands k x file place front behind piece is inside same fits =
     let rest = drop (length piece) (drop place file) in
     let number = little_bytes k x in
     let whole : drop place file ≡ front ++ (number ++ (behind ++ rest)) =
@@ -207,8 +207,8 @@ have_lengths plan at = record {
 }
 
 -- the last part ends where the whole does
-pub end-is : (plan : Image) (at : ℕ) → length (rtr_bytes plan at) ≡ (parts_of plan).end
-unfolding rtr_bytes
+pub end-is : (plan : Image) (at : ℕ) → length (part_bytes plan at) ≡ (parts_of plan).end
+unfolding part_bytes
 end-is plan at =
     let p = are_parts plan in
     let l = have_lengths plan at in
@@ -228,7 +228,7 @@ stand_in_a_row file rva (part ∷ parts) stands =
     (stands_front file rva part rest stands, stand_in_a_row file (rva + length part) parts (stands_behind file rva part rest stands))
 
 parts_stand : (file : List ℕ) (plan : Image) (at rows : ℕ) → Carries file plan at rows → StandInARow file at (part_list plan at)
-unfolding rtr_bytes
+unfolding part_bytes
 parts_stand file plan at rows c = stand_in_a_row file at (part_list plan at) c.stands
 
 stands_at : (file : List ℕ) (rva place : ℕ) (piece : List ℕ) → rva ≡ place → Stands file rva piece → Stands file place piece

@@ -1,14 +1,12 @@
 -- The numbers of a plan fit their types: those that were read, and the slots' that name what exists.
-use Rattle.std.proofs.Common.{◌≡◌, ℕ, zero, suc, ◌+◌, ◌*◌, ◌^◌, ◌<◌, ◌≤◌, List, [], ◌∷◌, length, All, Option, Some, None, true, arith}
-use Rattle.std.specs.Prelude.{MatchOption, is_some}
+use Rattle.std.proofs.Common.{◌≡◌, ℕ, zero, suc, ◌+◌, ◌*◌, ◌^◌, ◌<◌, ◌≤◌, List, [], ◌∷◌, length, All, Option, Some, None, arith}
 use Rattle.std.proofs.lemmas.List.Elements.{All-nil, All-cons, All-head, All-tail}
 use Rattle.rtr_sections.specs.declared.image.Image.{Image}
 use Rattle.rtr_sections.specs.declared.imports.ImportSection.{ImportSection}
 use Rattle.rtr_sections.specs.Imports.{slot_count}
-use Rattle.rtr_sections.specs.Parts.{length_bound, placed_imports}
+use Rattle.rtr_sections.specs.Parts.{placed_imports}
 use Rattle.rtr_sections.specs.Plan.{IsPlan, IsWellPlanned, Names}
 use Rattle.rtr_sections.proofs.Types.{FitsTypes, HasWords}
-use Rattle.rtr_sections.proofs.Bounds.{bytes_bounded}
 use Rattle.rtr_sections.proofs.WrittenLemmas.{fits_in}
 
 abbrev HasSize : ImportSection → Type 0
@@ -50,16 +48,3 @@ types_fit plan at cells arrays placed p placed_is flags sections sizes import_fl
   functions = λ k d h. (begins k d h, lengths k d h);
   entries = entries_fit plan p.planned sizes (omega (arith, fits_in plan at p));
 }
-
--- what is well planned and surely short can be written
-pub plan_of : (plan : Image) (at : ℕ) → IsWellPlanned plan → All HasSize plan.imports → length_bound plan < 2 ^ 24 → at ≤ 2 ^ 31 → IsPlan plan at
-plan_of plan at p sizes short low = record {
-  planned = p;
-  small = omega (arith, bytes_bounded plan at p (entries_fit plan p sizes (omega arith)));
-  low = low;
-}
-
--- some room left says that a plan is short enough
-pub short_of : (plan : Image) (room : Option ℕ) → MatchOption room (2 ^ 24 ≤ length_bound plan) (λ left. length_bound plan + left + 1 ≡ 2 ^ 24) → is_some room ≡ true → length_bound plan < 2 ^ 24
-short_of plan None h some = absurd (cc)
-short_of plan (Some left) h some = omega (arith, h)

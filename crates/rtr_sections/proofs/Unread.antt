@@ -10,7 +10,7 @@ use Rattle.rtr_sections.specs.declared.image.Image.{Image}
 use Rattle.rtr_sections.specs.declared.imports.ImportSection.{ImportSection}
 use Rattle.rtr_sections.specs.declared.slots.Slot.{Slot}
 use Rattle.rtr_sections.specs.Imports.{slot_count}
-use Rattle.rtr_sections.specs.Parts.{Parts, cell_spans, entry_bytes, header_span, parts_behind, parts_of, placed_imports, rtr_bytes, sections_at, signature_bytes_of, thunks_of, written_imports, written_sections}
+use Rattle.rtr_sections.specs.Parts.{Parts, cell_spans, entry_bytes, header_span, parts_behind, parts_of, placed_imports, part_bytes, sections_at, signature_bytes_of, thunks_of, written_imports, written_sections}
 use Rattle.rtr_sections.specs.Written.{asked_of, shape_of, without_begin, without_own_range, without_places, without_word}
 use Rattle.rtr_sections.proofs.Stands.{end-is}
 
@@ -93,7 +93,7 @@ shape_header p q at e = ap (λ (t : Parts). record { start = at + t.header; len 
 pub shape_cells : (p q : Image) (at : ℕ) → shape_of p ≡ shape_of q → cell_spans p at ≡ cell_spans q at
 shape_cells p q at e = ap (λ (t : List ImportSection). map (λ (import : ImportSection). record { start = import.rva; len = import.size }) t) (shape_imports p q at e)
 
-pub shape_length : (p q : Image) (at : ℕ) → shape_of p ≡ shape_of q → length (rtr_bytes p at) ≡ length (rtr_bytes q at)
+pub shape_length : (p q : Image) (at : ℕ) → shape_of p ≡ shape_of q → length (part_bytes p at) ≡ length (part_bytes q at)
 shape_length p q at e = end-is p at ∙ ap (λ (t : Parts). t.end) (shape_parts p q e) ∙ sym (end-is q at)
 
 -- ---- the bytes rest on nothing but what is asked
@@ -133,8 +133,8 @@ unfolding written_imports
 asked_imports p q at h =
     same_placed p.imports q.imports at (at + (parts_of p).arrays) h.imports ∙ ap (λ (t : Parts). placed_imports at (at + t.arrays) q.imports) (asked_parts p q h)
 
-pub asked_bytes : (p q : Image) (at : ℕ) → asked_of p ≡ asked_of q → rtr_bytes p at ≡ rtr_bytes q at
-unfolding rtr_bytes
+pub asked_bytes : (p q : Image) (at : ℕ) → asked_of p ≡ asked_of q → part_bytes p at ≡ part_bytes q at
+unfolding part_bytes
 asked_bytes p q at e =
     let h = are_asked p q e in
     let flags = h.flags in

@@ -5,9 +5,9 @@ use Rattle.rtr_bytes.specs.declared.fault.Span.{Span}
 use Rattle.rtr_sections.specs.declared.header.RtrSection.{RtrSection}
 use Rattle.rtr_sections.specs.declared.image.Image.{Image}
 use Rattle.rtr_sections.specs.declared.imports.ImportSection.{ImportSection}
-use Rattle.rtr_sections.specs.declared.written.Places.{Places}
+use Rattle.rtr_sections.specs.declared.written.PartPlaces.{PartPlaces}
 use Rattle.rtr_sections.specs.Header.{identifier}
-use Rattle.rtr_sections.specs.Parts.{Parts, cell_bytes, entry_bytes, function_bytes, header_bytes, import_bytes, parts_of, placed_imports, rtr_bytes, section, sections_at, signature_bytes_of, signature_rvas, thunks_of, unwind_bytes, words, written_imports, written_sections}
+use Rattle.rtr_sections.specs.Parts.{Parts, cell_bytes, entry_bytes, function_bytes, header_bytes, import_bytes, parts_of, placed_imports, part_bytes, section, sections_at, signature_bytes_of, signature_rvas, thunks_of, unwind_bytes, words, written_imports, written_sections}
 use Rattle.rtr_sections.specs.PartPlaces.{ArePlaces, ranged}
 use Rattle.rtr_sections.specs.Plan.{IsPlan, IsWellPlanned, SlotsAscend}
 use Rattle.rtr_sections.proofs.Stands.{end-is}
@@ -77,7 +77,7 @@ are_five (a ∷ b ∷ c ∷ d ∷ []) h = absurd cc
 are_five (a ∷ b ∷ c ∷ d ∷ e ∷ []) h = five_of a b c d e (cc) (cc) (cc) (cc) (cc)
 are_five (a ∷ b ∷ c ∷ d ∷ e ∷ f ∷ more) h = absurd cc
 
-ranged_five : (sections : List RtrSection) (places : Places) (entries : Span) (at : ℕ) (parts : Parts) → IsFive sections → ArePlaces places at parts
+ranged_five : (sections : List RtrSection) (places : PartPlaces) (entries : Span) (at : ℕ) (parts : Parts) → IsFive sections → ArePlaces places at parts
     → entries.start ≡ at + parts.entries → entries.len ≡ parts.end - parts.entries → map (ranged places entries) sections ≡ sections_at at parts (thunks_of sections)
 ranged_five sections places entries at parts five p start len =
     let identifier = p.identifier in
@@ -88,13 +88,13 @@ ranged_five sections places entries at parts five p start len =
     let is = five.is in
     rw (is, import_size, function_size, identifier, imports, functions, start, len) refl
 
-pub sections_are : (plan : Image) (at : ℕ) (places : Places) (entries : Span) → IsWellPlanned plan → ArePlaces places at (parts_of plan)
+pub sections_are : (plan : Image) (at : ℕ) (places : PartPlaces) (entries : Span) → IsWellPlanned plan → ArePlaces places at (parts_of plan)
     → entries.start ≡ at + (parts_of plan).entries → entries.len ≡ (parts_of plan).end - (parts_of plan).entries → map (ranged places entries) plan.header.sections ≡ written_sections plan at
 unfolding written_sections
 sections_are plan at places entries p places_are start len =
     ranged_five plan.header.sections places entries at (parts_of plan) (are_five plan.header.sections p.sections) places_are start len
 
-pub imports_are : (plan : Image) (at : ℕ) (places : Places) (placed : List ImportSection) → ArePlaces places at (parts_of plan) → placed ≡ placed_imports at places.arrays plan.imports → placed ≡ written_imports plan at
+pub imports_are : (plan : Image) (at : ℕ) (places : PartPlaces) (placed : List ImportSection) → ArePlaces places at (parts_of plan) → placed ≡ placed_imports at places.arrays plan.imports → placed ≡ written_imports plan at
 unfolding written_imports
 imports_are plan at places placed p e = e ∙ ap (λ (t : ℕ). placed_imports at t plan.imports) p.arrays
 
@@ -105,13 +105,13 @@ nine_put : (empty one two a b c d e f g h i : List ℕ) → empty ≡ [] → one
 nine_put empty one two a b c d e f g h i none first second =
     rw (second, first, none) (simp (append_assoc, append-nil) refl)
 
-pub bytes_are : (plan : Image) (at : ℕ) (places : Places) (range : Span) (placed : List ImportSection) (rvas signatures entries empty one two : List ℕ) → IsWellPlanned plan → ArePlaces places at (parts_of plan)
+pub bytes_are : (plan : Image) (at : ℕ) (places : PartPlaces) (range : Span) (placed : List ImportSection) (rvas signatures entries empty one two : List ℕ) → IsWellPlanned plan → ArePlaces places at (parts_of plan)
     → range.start ≡ at + (parts_of plan).entries → range.len ≡ (parts_of plan).end - (parts_of plan).entries
     → placed ≡ placed_imports at places.arrays plan.imports → rvas ≡ words (signature_rvas places.signatures plan.slots) → signatures ≡ signature_bytes_of plan.slots → entries ≡ entry_bytes plan.entries
     → empty ≡ [] → one ≡ empty ++ (cell_bytes plan.slots ++ (header_bytes plan.header.flags (map (ranged places range) plan.header.sections) ++ flat_map import_bytes placed))
     → two ≡ one ++ (rvas ++ (function_bytes places.unwinds plan.functions ++ (unwind_bytes plan.functions ++ (identifier ++ (signatures ++ entries)))))
-    → two ≡ rtr_bytes plan at
-unfolding rtr_bytes
+    → two ≡ part_bytes plan at
+unfolding part_bytes
 bytes_are plan at places range placed rvas signatures entries empty one two p places_are start len placed_is rvas_are signatures_are entries_are none first second =
     let sections = sections_are plan at places range p places_are start len in
     let imports = imports_are plan at places placed places_are placed_is in

@@ -9,7 +9,7 @@ use Rattle.fixup_sigs.specs.declared.fixup.Fixup.{Fixup}
 use Rattle.pe_image.specs.Headers.{place_of}
 use Rattle.rtr_sections.specs.declared.imports.ImportSection.{ImportSection}
 use Rattle.rtr_sections.specs.declared.slots.Slot.{Slot}
-use Rattle.rtr_sections.specs.Fixups.{fixup_at}
+use Rattle.fixup_sigs.specs.Reading.{fixup_at}
 use Rattle.rtr_sections.specs.Numbered.{present, first_bad}
 
 -- a record: the cells' RVA and size, Flags, Type, EntrySize, Signatures and AuxiliaryData

@@ -1,6 +1,5 @@
 pub mod Header
 pub mod Numbered
-pub mod Fixups
 pub mod Imports
 pub mod BadWords
 pub mod Functions

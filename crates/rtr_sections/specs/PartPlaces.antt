@@ -2,11 +2,11 @@
 use Rattle.std.specs.Prelude.{◌≡◌, ℕ, ◌+◌, ◌-◌, ◌==◌, if◌then◌else◌}
 use Rattle.rtr_bytes.specs.declared.fault.Span.{Span}
 use Rattle.rtr_sections.specs.declared.header.RtrSection.{RtrSection}
-use Rattle.rtr_sections.specs.declared.written.Places.{Places}
+use Rattle.rtr_sections.specs.declared.written.PartPlaces.{PartPlaces}
 use Rattle.rtr_sections.specs.Parts.{Parts, section}
 
 -- those of the parts up to the signatures, of a part at an RVA
-pub record ArePlaces (places : Places) (at : ℕ) (parts : Parts) : Type 0 where
+pub record ArePlaces (places : PartPlaces) (at : ℕ) (parts : Parts) : Type 0 where
   pub header : places.header ≡ at + parts.header
   pub imports : places.imports ≡ at + parts.imports
   pub arrays : places.arrays ≡ at + parts.arrays
@@ -16,7 +16,7 @@ pub record ArePlaces (places : Places) (at : ℕ) (parts : Parts) : Type 0 where
   pub signatures : places.signatures ≡ at + parts.signatures
 
 -- a section record with the range that the part has for its type; of another type it keeps its own
-abbrev pub ranged : Places → Span → RtrSection → RtrSection
+abbrev pub ranged : PartPlaces → Span → RtrSection → RtrSection
 ranged places entries s =
     if s.kind == 100 then section s.kind places.identifier 14
     else if s.kind == 101 then section s.kind places.imports (places.arrays - places.imports)

@@ -1,11 +1,10 @@
 -- The ReadyToRun part as this compiler writes it: the parts of it, one behind the other, where each stands, and its bytes.
-use Rattle.std.specs.Prelude.{ℕ, ◌+◌, ◌-◌, ◌*◌, ◌==◌, List, [], ◌∷◌, ◌++◌, length, map, flat_map, max, find, sum_by, unwrap_or}
+use Rattle.std.specs.Prelude.{ℕ, ◌+◌, ◌-◌, ◌*◌, ◌==◌, List, [], ◌∷◌, ◌++◌, length, map, flat_map, max, find, unwrap_or}
 use Rattle.byteorder.specs.Endian.{little_bytes}
 use Rattle.rtr_bytes.specs.declared.fault.Span.{Span}
 use Rattle.native_format.specs.declared.nibbles.SlotRef.{SlotRef}
 use Rattle.native_format.specs.declared.sparse.Element.{Element}
 use Rattle.native_format.specs.Nibbles.{list_bytes}
-use Rattle.native_format.specs.Sparse.{blocks_of}
 use Rattle.native_format.specs.SparseBytes.{sparse_bytes}
 use Rattle.native_format.specs.Uint.{short_uint}
 use Rattle.fixup_sigs.specs.Shortest.{fixup_bytes}
@@ -161,8 +160,8 @@ part_list plan at =
     ∷ []
 
 -- the whole, at an RVA
-unfoldable pub rtr_bytes : Image → ℕ → List ℕ
-rtr_bytes plan at = flat_map (λ part. part) (part_list plan at)
+unfoldable pub part_bytes : Image → ℕ → List ℕ
+part_bytes plan at = flat_map (λ part. part) (part_list plan at)
 
 -- the header's range of RVAs
 abbrev pub header_span : Image → ℕ → Span
@@ -174,12 +173,3 @@ span_of_cells import = record { start = import.rva; len = import.size }
 
 abbrev pub cell_spans : Image → ℕ → List Span
 cell_spans plan at = map span_of_cells (written_imports plan at)
-
--- ---- no part is longer: 10 bytes for a signature and, for an entry, 20 for the nodes above it, 5 for its id, and 17 for
--- each of its slots and 2 more; a block of the array takes 4 bytes of the index, and 1 where it is empty
-abbrev pub entry_bound : EntryPoint → ℕ
-entry_bound entry = 27 + 17 * length entry.fixups
-
-abbrev pub length_bound : Image → ℕ
-length_bound plan =
-    95 + 22 * length plan.slots + 20 * length plan.imports + 12 * length plan.functions + 5 * blocks_of (highest_row plan.entries) + sum_by entry_bound plan.entries

@@ -9,7 +9,7 @@ use Rattle.rtr_sections.specs.declared.image.Image.{Image}
 use Rattle.rtr_sections.specs.declared.imports.ImportSection.{ImportSection}
 use Rattle.rtr_sections.specs.Functions.{end_of}
 use Rattle.rtr_sections.specs.Imports.{slot_count}
-use Rattle.rtr_sections.specs.Parts.{length_bound, rtr_bytes}
+use Rattle.rtr_sections.specs.Parts.{part_bytes}
 
 -- an import record as this compiler writes them: whole cells of 8 bytes, and no auxiliary data
 pub record HasWrittenForm (import : ImportSection) : Type 0 where
@@ -61,10 +61,5 @@ pub record IsWellPlanned (plan : Image) : Type 0 where
 -- What can be written at an RVA: then each place has 32 bits.
 pub record IsPlan (plan : Image) (at : ℕ) : Type 0 where
   pub planned : IsWellPlanned plan
-  pub small : length (rtr_bytes plan at) < 2 ^ 24
-  pub low : at ≤ 2 ^ 31
-
--- what is surely short enough
-pub record IsShort (plan : Image) (at : ℕ) : Type 0 where
-  pub bounded : length_bound plan < 2 ^ 24
+  pub small : length (part_bytes plan at) < 2 ^ 24
   pub low : at ≤ 2 ^ 31

@@ -10,7 +10,7 @@ use Rattle.rtr_sections.specs.declared.header.RtrSection.{RtrSection}
 use Rattle.rtr_sections.specs.declared.image.Image.{Image}
 use Rattle.rtr_sections.specs.declared.imports.ImportSection.{ImportSection}
 use Rattle.rtr_sections.specs.declared.slots.Slot.{Slot}
-use Rattle.rtr_sections.specs.Parts.{header_span, highest_row, rtr_bytes, thunks_of, written_imports, written_sections}
+use Rattle.rtr_sections.specs.Parts.{header_span, highest_row, part_bytes, thunks_of, written_imports, written_sections}
 
 -- ---- what is read back
 
@@ -33,7 +33,7 @@ IsPlaced file s = 0 < s.size → IsSome (place_of file s.rva s.size)
 -- A file that carries the part of a plan at an RVA, and an assembly of so many MethodDef rows.
 pub record Carries (file : List ℕ) (plan : Image) (at rows : ℕ) : Type 0 where
   -- each range of the part is found at its RVA, with its bytes
-  pub stands : FindsPart (sections_of file) file at (rtr_bytes plan at)
+  pub stands : FindsPart (sections_of file) file at (part_bytes plan at)
   -- it is for A64, and ManagedNativeHeader names the header
   pub machine : machine_of file ≡ 0xAA64
   pub native : native_of file ≡ Some (header_span plan at)
@@ -54,7 +54,7 @@ pub record IsWrittenBehind (sections : List PeSection) (bytes dat cod : List ℕ
   pub cli_header : HasCliHeader file cli dat (cli - dat_rva sections)
   -- what `.r2rdat` has
   pub more : List ℕ
-  pub begins : dat ≡ rtr_bytes plan (dat_rva sections) ++ more
+  pub begins : dat ≡ part_bytes plan (dat_rva sections) ++ more
   pub cli_inside : (dat_rva sections ≤ cli) × (cli + 72 ≤ dat_rva sections + length dat)
   pub native_rva : u32_of dat (cli - dat_rva sections + 64) ≡ (header_span plan (dat_rva sections)).start
   pub native_size : u32_of dat (cli - dat_rva sections + 68) ≡ (header_span plan (dat_rva sections)).len

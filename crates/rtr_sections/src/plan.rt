@@ -1,14 +1,12 @@
 //! Whether the records of a plan can be written.
 
-ghost use Rattle.std.specs.Prelude.{◌≡◌, ℕ, ◌+◌, ◌*◌, ◌/◌, ◌<◌, ◌≤◌, ◌^◌, ◌↔◌, [], ◌∷◌, length, map, All, IsTrue, MatchOption, sum_by};
+ghost use Rattle.std.specs.Prelude.{◌≡◌, ℕ, ◌+◌, ◌*◌, ◌/◌, ◌<◌, ◌≤◌, ◌^◌, ◌↔◌, [], ◌∷◌, length, map, All, IsTrue, sum_by};
 ghost use Rattle.native_format.specs.Nibbles.{AscendFrom, Precedes};
 ghost use Rattle.fixup_sigs.specs.Shortest.{IsSpellable};
 ghost use Rattle.rtr_sections.specs.Imports.{slot_count};
-ghost use Rattle.rtr_sections.specs.Parts.{entry_bound, length_bound};
-ghost use Rattle.rtr_sections.specs.Plan.{AreInOrder, HasWrittenForm, IsLinkedIn, IsPlan, IsShort, IsWellPlanned, Names, RowsAscend, SlotsAscend};
+ghost use Rattle.rtr_sections.specs.Plan.{AreInOrder, HasWrittenForm, IsLinkedIn, IsPlan, IsWellPlanned, Names, RowsAscend, SlotsAscend};
 
 use crate::entries::EntryPoint;
-use crate::entry_writer::highest_row;
 use crate::functions::Function;
 use crate::header::{
     COMPILER_IDENTIFIER, DELAY_LOAD_METHOD_CALL_THUNKS, IMPORT_SECTIONS, METHOD_DEF_ENTRY_POINTS,
@@ -16,8 +14,15 @@ use crate::header::{
 };
 use crate::image::Image;
 use crate::imports::ImportSection;
+use crate::length::written_len;
 use crate::slots::Slot;
+use crate::written::CELL_SIZE;
 use native_format::SlotRef;
+
+/// The highest RVA of a part.
+const LAST_RVA: u32 = 1 << 31;
+/// A part has fewer bytes than this.
+const LENGTH_LIMIT: u64 = 1 << 24;
 
 /// The types of the sections that this compiler writes, in their order.
 const WRITTEN_SECTIONS: [u32; 5] = [
@@ -48,24 +53,20 @@ impl RtrHeader {
 impl ImportSection {
     /// Whether it has whole cells of 8 bytes, and no auxiliary data.
     fn has_written_form(self) -> bool
-        ensures form { IsTrue result ↔ HasWrittenForm self }
-        ensures fits { self.size < 2 ^ 32 }
+        ensures { IsTrue result ↔ HasWrittenForm self }
     {
-        self.kind == 0 && self.entry_size == 8 && self.size % 8 == 0 && self.auxiliary == 0
+        self.kind == 0
+            && self.entry_size == CELL_SIZE as u8
+            && self.size % CELL_SIZE == 0
+            && self.auxiliary == 0
     }
 }
 
 /// Whether import records have the form that this compiler writes.
 fn have_written_form(imports: &[ImportSection]) -> bool
-    ensures form { IsTrue result ↔ All HasWrittenForm imports.now }
-    ensures sizes { IsTrue result → All (λ i. i.size < 2 ^ 32) imports.now }
+    ensures { IsTrue result ↔ All HasWrittenForm imports.now }
 {
-    for import in imports {
-        if !import.has_written_form() {
-            return false;
-        }
-    }
-    true
+    imports.iter().all(|import| import.has_written_form())
 }
 
 /// Whether import records have so many slots together.
@@ -74,7 +75,7 @@ fn have_slots(imports: &[ImportSection], slots: usize) -> bool
 {
     let mut left = slots;
     for import in imports {
-        let count = import.size as usize / 8;
+        let count = (import.size / CELL_SIZE) as usize;
         if left < count {
             return false;
         }
@@ -90,7 +91,7 @@ fn are_spellable(slots: &[Slot]) -> bool
     slots.iter().all(|slot| slot.fixup.is_spellable())
 }
 
-/// Whether functions are of whole instructions, each behind the code of the one before.
+/// Whether functions are of whole instructions, each after the code of the one before.
 fn are_in_order(functions: &[Function]) -> bool
     ensures { IsTrue result ↔ AreInOrder 0 functions.now }
 {
@@ -147,7 +148,7 @@ fn slot_exists(imports: &[ImportSection], slot: SlotRef) -> bool
     ensures { IsTrue result ↔ Names imports.now slot.section slot.slot }
 {
     let section = slot.section as usize;
-    section < imports.len() && slot.slot < imports[section].size / 8
+    section < imports.len() && slot.slot < imports[section].size / CELL_SIZE
 }
 
 /// Whether slots exist.
@@ -179,41 +180,9 @@ fn are_linked(plan: &Image) -> bool
         .all(|entry| entry.is_linked_in(plan))
 }
 
-/// What is left of some bytes behind so many things of one size, none where they don't fit.
-fn room_behind(room: u64, count: u64, size: u64) -> Option<u64>
-    ensures { MatchOption result (room < count * size) (λ left. left + count * size ≡ room) }
-{
-    room.checked_sub(count.checked_mul(size)?)
-}
-
-/// What is left of some bytes behind entries, none where they may not fit.
-fn room_behind_entries(room: u64, entries: &[EntryPoint]) -> Option<u64>
-    ensures { MatchOption result (room < sum_by entry_bound entries.now) (λ left. left + sum_by entry_bound entries.now ≡ room) }
-{
-    let mut left = room;
-    for entry in entries {
-        left = room_behind(left, entry.fixups.as_slice().len() as u64, 17)?.checked_sub(27)?;
-    }
-    Some(left)
-}
-
-/// What is left of 2^24 - 1 bytes behind a plan's part, none where it may not fit.
-fn room_left(plan: &Image) -> Option<u64>
-    ensures { MatchOption result (2 ^ 24 ≤ length_bound plan.now) (λ left. length_bound plan.now + left + 1 ≡ 2 ^ 24) }
-{
-    let entries = plan.entries.as_slice();
-    let blocks = (u64::from(highest_row(entries)) + 15) / 16;
-    let room = room_behind((1 << 24) - 1 - 95, plan.slots.as_slice().len() as u64, 22)?;
-    let room = room_behind(room, plan.imports.as_slice().len() as u64, 20)?;
-    let room = room_behind(room, plan.functions.as_slice().len() as u64, 12)?;
-    let room = room_behind(room, blocks, 5)?;
-    room_behind_entries(room, entries)
-}
-
 /// Whether the records of a plan are in themselves as `write_rtr` needs them.
 fn is_well_planned(plan: &Image) -> bool
-    ensures planned { IsTrue result ↔ IsWellPlanned plan.now }
-    ensures sizes { IsTrue result → All (λ i. i.size < 2 ^ 32) plan.now.imports }
+    ensures { IsTrue result ↔ IsWellPlanned plan.now }
 {
     let imports = plan.imports.as_slice();
     let slots = plan.slots.as_slice();
@@ -226,11 +195,10 @@ fn is_well_planned(plan: &Image) -> bool
         && are_linked(plan)
 }
 
-/// Whether a plan can be written for an RVA: its records are as [`write_rtr`](crate::write_rtr) needs them, its bytes
-/// are surely below 2^24, and the RVA is at most 2^31. It takes no memory.
+/// Whether a plan can be written for an RVA: its records are as [`write_rtr`](crate::write_rtr) needs them, its bytes are
+/// below 2^24, and the RVA is at most 2^31. It takes no memory.
 pub fn can_write_rtr(plan: &Image, at: u32) -> bool
-    ensures planned { IsTrue result ↔ (IsWellPlanned plan.now × IsShort plan.now at) }
-    ensures plan { IsTrue result → IsPlan plan.now at }
+    ensures { IsTrue result ↔ IsPlan plan.now at }
 {
-    at <= 1 << 31 && is_well_planned(plan) && room_left(plan).is_some()
+    at <= LAST_RVA && is_well_planned(plan) && written_len(plan) < LENGTH_LIMIT
 }

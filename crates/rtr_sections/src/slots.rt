@@ -3,7 +3,7 @@
 ghost use Rattle.std.specs.Prelude.{None, ◌≡◌, ◌+◌, ◌*◌, ◌++◌, ◌≤◌, ◌<◌, ◌^◌, length, IfErr, IfOk, OnOk};
 ghost use Rattle.rtr_bytes.specs.Checks.{fault_or, RefusedBy};
 ghost use Rattle.pe_image.specs.Headers.{headers_of};
-ghost use Rattle.rtr_sections.specs.Fixups.{fixup_at};
+ghost use Rattle.fixup_sigs.specs.Reading.{fixup_at};
 ghost use Rattle.rtr_sections.specs.Imports.{all_slots, array_at, cells_at, first_bad_of, first_bad_word, named_fixup, slot_at, slot_count, slots_in};
 
 use crate::imports::ImportSection;

@@ -10,7 +10,7 @@ use std::test::Fail;
 /// Where the part stands.
 const AT: u32 = 0x10000;
 
-/// The parts, one behind the other: the cells' words, the header with its section records, the import records, the arrays
+/// The parts, one after the other: the cells' words, the header with its section records, the import records, the arrays
 /// of the signatures' RVAs, the functions, their unwind words, the identifier, the signatures and the array of entries.
 const PARTS: [&[u8]; 9] = [
     b"\x01\x02\x03\x04\x05\x06\x07\x08\0\0\0\0\0\0\0\0\xFF\xFF\xFF\xFF\xFF\xFF\xFF\xFF\0\0\0\0\0\0\0\0",
@@ -145,6 +145,7 @@ fn writes_a_plan(rt: HostRuntime) -> Result<(), Fail> {
         expected.extend_from_slice(part)?;
     }
     assert_eq!(rt; written.bytes.as_slice(), expected.as_slice());
+    assert_eq!(rt; written_len(&plan), written.bytes.len() as u64);
     assert_eq!(rt; written.header, span(0x10020, 76));
     let cells = [span(0x10000, 16), span(0x10010, 8), span(0x10018, 8)];
     assert_eq!(rt; written.cells.as_slice(), cells.as_slice());

@@ -6,7 +6,7 @@ ghost use Rattle.rtr_bytes.specs.Checks.{first_fault};
 ghost use Rattle.rtr_sections.specs.Header.{identifier, native_at};
 ghost use Rattle.rtr_sections.specs.Image.{image_of, rtr_checks};
 ghost use Rattle.rtr_sections.specs.PartPlaces.{ArePlaces, ranged};
-ghost use Rattle.rtr_sections.specs.Parts.{cell_bytes, cell_spans, entry_bytes, function_bytes, header_bytes, header_span, import_bytes, length_bound, parts_of, rtr_bytes, section_bytes, signature_bytes_of, span_of_cells, unwind_bytes, written_imports};
+ghost use Rattle.rtr_sections.specs.Parts.{cell_bytes, cell_spans, entry_bytes, function_bytes, header_bytes, header_span, import_bytes, parts_of, part_bytes, section_bytes, signature_bytes_of, span_of_cells, unwind_bytes, written_imports};
 ghost use Rattle.rtr_sections.specs.Plan.{IsPlan};
 ghost use Rattle.rtr_sections.specs.Written.{Carries, asked_of, back_image, shape_of};
 
@@ -18,9 +18,11 @@ use crate::header::{
 };
 use crate::image::Image;
 use crate::imports::{ImportSection, RECORD_SIZE};
+use crate::length::written_len;
 use crate::pieces::{
     Signatures, placed_imports, put_cells, put_functions, put_imports, put_unwinds,
 };
+use native_format::written_is_read;
 use rtr_bytes::{NoMemory, Span};
 use std::alloc::Global;
 
@@ -36,15 +38,15 @@ pub struct Written {
 }
 
 /// The bytes of the header with its five section records.
-const HEADER_SIZE: u32 = 76;
+pub(crate) const WRITTEN_HEADER_SIZE: u32 = 76;
 /// The bytes of a cell.
-const CELL_SIZE: u32 = 8;
+pub(crate) const CELL_SIZE: u32 = 8;
 /// The bytes of an RVA, and of an unwind word.
-const WORD_SIZE: u32 = 4;
+pub(crate) const WORD_SIZE: u32 = 4;
 
-/// The RVAs of the parts up to the signatures. The cells stand in front of them.
+/// The RVAs of the parts up to the signatures. The cells are before them.
 #[derive(Clone, Copy)]
-struct Places {
+struct PartPlaces {
     header: u32,
     imports: u32,
     arrays: u32,
@@ -54,9 +56,9 @@ struct Places {
     signatures: u32,
 }
 
-impl Places {
+impl PartPlaces {
     /// Those of a plan at an RVA.
-    fn of(plan: &Image, at: u32) -> Places
+    fn of(plan: &Image, at: u32) -> PartPlaces
         requires { at + 12 * length plan.now.slots + 20 * length plan.now.imports + 12 * length plan.now.functions + 90 < 2 ^ 32 }
         ensures { ArePlaces result at (parts_of plan.now) }
     {
@@ -64,12 +66,12 @@ impl Places {
         let import_count = plan.imports.as_slice().len() as u32;
         let function_count = plan.functions.as_slice().len() as u32;
         let header = at + CELL_SIZE * slot_count;
-        let imports = header + HEADER_SIZE;
+        let imports = header + WRITTEN_HEADER_SIZE;
         let arrays = imports + RECORD_SIZE * import_count;
         let functions = arrays + WORD_SIZE * slot_count;
         let unwinds = functions + ENTRY_SIZE * function_count;
         let identifier = unwinds + WORD_SIZE * function_count;
-        Places {
+        PartPlaces {
             header,
             imports,
             arrays,
@@ -83,7 +85,7 @@ impl Places {
 
 impl RtrSection {
     /// The section record with the range that the part has for its type. Of another type it keeps its own.
-    fn ranged(self, places: &Places, entries: Span) -> RtrSection
+    fn ranged(self, places: &PartPlaces, entries: Span) -> RtrSection
         requires imports { places.now.imports ≤ places.now.arrays }
         requires functions { places.now.functions ≤ places.now.unwinds }
         ensures section { result ≡ ranged places.now entries self }
@@ -104,7 +106,7 @@ impl RtrSection {
 fn put_sections(
     out: &mut Vec<u8>,
     sections: &[RtrSection],
-    places: &Places,
+    places: &PartPlaces,
     entries: Span,
 ) -> Result<(), NoMemory>
     requires imports { places.now.imports ≤ places.now.arrays }
@@ -123,7 +125,7 @@ fn put_sections(
 fn put_header(
     out: &mut Vec<u8>,
     header: &RtrHeader,
-    places: &Places,
+    places: &PartPlaces,
     entries: Span,
 ) -> Result<(), NoMemory>
     requires imports { places.now.imports ≤ places.now.arrays }
@@ -140,17 +142,17 @@ fn put_header(
     put_sections(out, header.sections.as_slice(), places, entries)
 }
 
-/// Appends what stands in front of the arrays: the cells, the header and the import records.
-fn put_front(
+/// Appends what is before the arrays: the cells, the header and the import records.
+fn put_head(
     out: &mut Vec<u8>,
     plan: &Image,
-    places: &Places,
+    places: &PartPlaces,
     entries: Span,
     imports: &[ImportSection],
 ) -> Result<(), NoMemory>
     requires imports { places.now.imports ≤ places.now.arrays }
     requires functions { places.now.functions ≤ places.now.unwinds }
-    ensures front { OnOk result (out.new.items ≡ out.old.items ++ (cell_bytes plan.now.slots
+    ensures head { OnOk result (out.new.items ≡ out.old.items ++ (cell_bytes plan.now.slots
         ++ (header_bytes plan.now.header.flags (map (ranged places.now entries) plan.now.header.sections) ++ flat_map import_bytes imports.now))) }
     ensures words { OnOk result (All (λ s. s.word < 2 ^ 64) plan.now.slots) }
     ensures header_flags { OnOk result (plan.now.header.flags < 2 ^ 32) }
@@ -164,7 +166,7 @@ fn put_front(
 
 /// Appends the arrays and what stands behind them: the functions with their unwind words, the identifier, the signatures
 /// and the entries.
-fn put_behind(
+fn put_tables(
     out: &mut Vec<u8>,
     functions: &[Function],
     unwinds: u32,
@@ -172,7 +174,7 @@ fn put_behind(
     entries: &[u8],
 ) -> Result<(), NoMemory>
     requires { unwinds + 4 * length functions.now < 2 ^ 32 }
-    ensures behind { OnOk result (out.new.items ≡ out.old.items ++ (signatures.now.rvas.items ++ (function_bytes unwinds functions.now
+    ensures tables { OnOk result (out.new.items ≡ out.old.items ++ (signatures.now.rvas.items ++ (function_bytes unwinds functions.now
         ++ (unwind_bytes functions.now ++ (identifier ++ (signatures.now.bytes.items ++ entries.now)))))) }
     ensures begins { OnOk result (All (λ f. f.begin < 2 ^ 32) functions.now) }
     ensures lengths { OnOk result (All (λ f. f.length < 2 ^ 32) functions.now) }
@@ -206,17 +208,16 @@ fn cell_spans(alloc: Global, imports: &[ImportSection]) -> Result<Vec<Span>, NoM
 pub fn write_rtr(alloc: Global, plan: &Image, at: u32) -> Result<Written, NoMemory>
     requires plan { IsPlan plan.now at }
 
-    ensures bytes { IfOk result (λ w. w.bytes.items ≡ rtr_bytes plan.now at) }
+    ensures bytes { IfOk result (λ w. w.bytes.items ≡ part_bytes plan.now at) }
     ensures header { IfOk result (λ w. w.header ≡ header_span plan.now at) }
     ensures cells { IfOk result (λ w. w.cells.items ≡ cell_spans plan.now at) }
     ensures small { IfOk result (λ w. length w.bytes.items < 2 ^ 24) }
-    ensures bounded { IfOk result (λ w. length w.bytes.items ≤ length_bound plan.now) }
 
     // The plan's places, and the sizes of the sections that the writer fills, aren't read.
-    ensures unread { IfOk result (λ w. (other : Image) → asked_of other ≡ asked_of plan.now → w.bytes.items ≡ rtr_bytes other at) }
-    // Neither the length nor a chosen place rests on the slots' words, the functions' begins or the range of the thunks.
+    ensures unread { IfOk result (λ w. (other : Image) → asked_of other ≡ asked_of plan.now → w.bytes.items ≡ part_bytes other at) }
+    // Neither the length nor a chosen place depends on the slots' words, the functions' begins or the range of the thunks.
     ensures length_alone { IfOk result (λ w. (other : Image) → shape_of other ≡ shape_of plan.now
-        → length w.bytes.items ≡ length (rtr_bytes other at)) }
+        → length w.bytes.items ≡ length (part_bytes other at)) }
     ensures places_alone { IfOk result (λ w. (other : Image) → shape_of other ≡ shape_of plan.now
         → (parts_of other ≡ parts_of plan.now) × (w.header ≡ header_span other at) × (w.cells.items ≡ cell_spans other at)
         × (written_imports other at ≡ written_imports plan.now at)) }
@@ -227,7 +228,8 @@ pub fn write_rtr(alloc: Global, plan: &Image, at: u32) -> Result<Written, NoMemo
     ensures read_back { IfOk result (λ _. (file : List ℕ) (rows : ℕ) → Carries file plan.now at rows
         → image_of file ≡ back_image plan.now at (native_at file)) }
 {
-    let places = Places::of(plan, at);
+    written_is_read();
+    let places = PartPlaces::of(plan, at);
     let signatures = Signatures::of(alloc, plan.slots.as_slice(), places.signatures)?;
     let entries = write_entries(alloc, plan.entries.as_slice())?;
     let imports = placed_imports(alloc, plan.imports.as_slice(), at, places.arrays)?;
@@ -236,14 +238,14 @@ pub fn write_rtr(alloc: Global, plan: &Image, at: u32) -> Result<Written, NoMemo
         len: entries.len() as u32,
     };
     let functions = plan.functions.as_slice();
-    let mut bytes = Vec::new(alloc);
-    put_front(&mut bytes, plan, &places, entries_range, &imports)?;
-    put_behind(&mut bytes, functions, places.unwinds, &signatures, &entries)?;
+    let mut bytes = Vec::with_capacity(alloc, written_len(plan) as usize)?;
+    put_head(&mut bytes, plan, &places, entries_range, &imports)?;
+    put_tables(&mut bytes, functions, places.unwinds, &signatures, &entries)?;
     Ok(Written {
         bytes,
         header: Span {
             start: places.header,
-            len: HEADER_SIZE,
+            len: WRITTEN_HEADER_SIZE,
         },
         cells: cell_spans(alloc, &imports)?,
     })

@@ -1,10 +1,9 @@
-use Rattle.std.proofs.Common.{◌∙◌, sym}
-use Rattle.rtr_sections.proofs.FixupLaws.{fixup_at-found, fixup_at-none}
+use Rattle.std.proofs.Common.{◌∙◌}
+use Rattle.fixup_sigs.proofs.ReadingLaws.{fixup_at-read}
 use Rattle.rtr_sections.proofs.slots.fixup_at.Goals as goal
 
 pub returns-in_err-fixup : goal.returns-in_err-fixup
-returns-in_err-fixup c =
-    c.from_residual.ensures ∙ sym (fixup_at-none c.args.bytes.now c.args.at (λ fixup next h. let found = c.in_err-fixup.ensures.only fixup next h in absurd (cc)))
+returns-in_err-fixup c = c.from_residual.ensures ∙ fixup_at-read c.args.bytes.now c.args.at _ c.in_err-fixup.ensures.exact
 
 pub returns : goal.returns
-returns c = sym (fixup_at-found c.args.bytes.now c.args.at c.in_ok-fixup.fixup _ c.in_ok-fixup.ensures.found)
+returns c = fixup_at-read c.args.bytes.now c.args.at _ c.in_ok-fixup.ensures.exact

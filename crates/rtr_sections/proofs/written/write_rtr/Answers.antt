@@ -2,10 +2,9 @@ use Rattle.std.proofs.Common.{◌≡◌, ◌+◌, ◌-◌, ℕ, List, length, ma
 use Rattle.rtr_sections.specs.declared.slots.Slot.{Slot}
 use Rattle.rtr_sections.specs.declared.entries.EntryPoint.{EntryPoint}
 use Rattle.rtr_sections.specs.declared.imports.ImportSection.{ImportSection}
-use Rattle.rtr_sections.specs.Parts.{cell_spans, entry_bytes, header_span, parts_of, placed_imports, rtr_bytes, signature_bytes_of, signature_rvas, span_of_cells, words}
+use Rattle.rtr_sections.specs.Parts.{cell_spans, entry_bytes, header_span, parts_of, placed_imports, part_bytes, signature_bytes_of, signature_rvas, span_of_cells, words}
 use Rattle.rtr_sections.proofs.Types.{FitsTypes}
 use Rattle.rtr_sections.proofs.Back.{image_back, well_formed}
-use Rattle.rtr_sections.proofs.Bounds.{bytes_bounded}
 use Rattle.rtr_sections.proofs.Stands.{are_parts}
 use Rattle.rtr_sections.proofs.TypesFit.{types_fit}
 use Rattle.rtr_sections.proofs.Unread.{asked_bytes, shape_cells, shape_header, shape_imports, shape_length, shape_parts}
@@ -53,18 +52,18 @@ overflow_add-entries_range c =
 pub overflow_cast-entries_range-2 : goal.overflow_cast-entries_range-2
 overflow_cast-entries_range-2 c = omega (arith, fits_in c.args.plan.now c.args.at c.requires.plan, entries_len c)
 
-pub put_front-requires-clause-imports : goal.put_front-requires-clause-imports
-put_front-requires-clause-imports c = omega (arith, c.of-places.ensures.imports, c.of-places.ensures.arrays, are_parts c.args.plan.now)
+pub put_head-requires-clause-imports : goal.put_head-requires-clause-imports
+put_head-requires-clause-imports c = omega (arith, c.of-places.ensures.imports, c.of-places.ensures.arrays, are_parts c.args.plan.now)
 
-pub put_front-requires-clause-functions : goal.put_front-requires-clause-functions
-put_front-requires-clause-functions c = omega (arith, c.of-places.ensures.functions, c.of-places.ensures.unwinds, are_parts c.args.plan.now)
+pub put_head-requires-clause-functions : goal.put_head-requires-clause-functions
+put_head-requires-clause-functions c = omega (arith, c.of-places.ensures.functions, c.of-places.ensures.unwinds, are_parts c.args.plan.now)
 
-pub put_behind-requires : goal.put_behind-requires
-put_behind-requires c =
+pub put_tables-requires : goal.put_tables-requires
+put_tables-requires c =
     rw c.as_slice-functions.ensures (omega (arith, fits_in c.args.plan.now c.args.at c.requires.plan, are_parts c.args.plan.now, header_place c.args.plan.now, c.of-places.ensures.unwinds, c.requires.plan.low))
 
 -- the bytes are the plan's
-whole : (c : goal.After-drop-signatures-3) → c.put_behind.new.out.items ≡ rtr_bytes c.args.plan.now c.args.at
+whole : (c : goal.After-drop-signatures-3) → c.put_tables.new.out.items ≡ part_bytes c.args.plan.now c.args.at
 whole c =
     let plan = c.args.plan.now in
     let parts = are_parts plan in
@@ -83,7 +82,7 @@ whole c =
     let signatures : c.in_ok-signatures.signatures.bytes.items ≡ signature_bytes_of plan.slots = c.in_ok-signatures.ensures.bytes ∙ ap (λ (t : List Slot). signature_bytes_of t) c.as_slice.ensures in
     let entries : c.deref-2.result.now ≡ entry_bytes plan.entries = c.deref-2.ensures.value ∙ c.in_ok-entries.ensures ∙ ap (λ (t : List EntryPoint). entry_bytes t) c.as_slice-2.ensures in
     bytes_are plan c.args.at c.of-places.result (record { start = c.of-places.result.signatures + c.len.result; len = c.len-2.result }) c.deref.result.now _ _ c.deref-2.result.now _ _ _
-    c.requires.plan.planned c.of-places.ensures start len placed rvas signatures entries c.new-bytes.ensures.items c.in_ok-put_front.ensures.front (rw c.as_slice-functions.ensures at c.in_ok-put_behind.ensures.behind)
+    c.requires.plan.planned c.of-places.ensures start len placed rvas signatures entries c.in_ok-bytes.ensures.items c.in_ok-put_head.ensures.head (rw c.as_slice-functions.ensures at c.in_ok-put_tables.ensures.tables)
 
 pub returns-clause-bytes : goal.returns-clause-bytes
 returns-clause-bytes c = whole c
@@ -120,18 +119,15 @@ returns-clause-places_alone c other e =
 fits : (c : goal.After-drop-signatures-3) → FitsTypes c.args.plan.now
 fits c =
     let plan = c.args.plan.now in
-    let front = c.in_ok-put_front.ensures in
-    let behind = c.in_ok-put_behind.ensures in
+    let front = c.in_ok-put_head.ensures in
+    let behind = c.in_ok-put_tables.ensures in
     let placed : c.deref.result.now ≡ placed_imports c.args.at c.of-places.result.arrays plan.imports = c.deref.ensures.value ∙ c.in_ok-imports.ensures.placed
     ∙ ap (λ (t : List ImportSection). placed_imports c.args.at c.of-places.result.arrays t) c.as_slice-3.ensures in
     types_fit plan c.args.at c.args.at c.of-places.result.arrays c.deref.result.now c.requires.plan placed front.header_flags front.ranges (rw c.as_slice-3.ensures at c.in_ok-imports.ensures.sizes) front.import_flags
     front.words (rw c.as_slice-functions.ensures at behind.begins) (rw c.as_slice-functions.ensures at behind.lengths)
 
 pub returns-clause-well_formed : goal.returns-clause-well_formed
-returns-clause-well_formed c file rows carries = well_formed file c.args.plan.now c.args.at rows c.requires.plan (fits c) carries
+returns-clause-well_formed c file rows carries = well_formed c.written_is_read.ensures file c.args.plan.now c.args.at rows c.requires.plan (fits c) carries
 
 pub returns-clause-read_back : goal.returns-clause-read_back
-returns-clause-read_back c file rows carries = image_back file c.args.plan.now c.args.at rows c.requires.plan (fits c) carries
-
-pub returns-clause-bounded : goal.returns-clause-bounded
-returns-clause-bounded c = rw (whole c) (bytes_bounded c.args.plan.now c.args.at c.requires.plan.planned (fits c).entries)
+returns-clause-read_back c file rows carries = image_back c.written_is_read.ensures file c.args.plan.now c.args.at rows c.requires.plan (fits c) carries
