@@ -11,9 +11,9 @@ mod sparse_reader;
 mod sparse_writer;
 mod uint;
 
-pub use nibble_reader::read_nibbles;
+pub use nibble_reader::{SlotReader, read_nibbles};
 pub use nibble_writer::{fewest_groups, write_nibbles};
-pub use nibbles::{ListRefusal, SlotRef};
+pub use nibbles::{ListRefusal, MalformedList, SlotRef};
 pub use sparse::Element;
 pub use sparse_reader::SparseArray;
 pub use sparse_writer::write_sparse;
