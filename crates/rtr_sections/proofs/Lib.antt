@@ -1,12 +1,17 @@
 pub mod Placed
 pub mod NativeLemmas
 pub mod Numbered
+pub mod Listed
+pub mod ImportsListed
+pub mod EntryHeads
 pub mod CodeEnds
 pub mod SlotsRead
 pub mod BadWords
 pub mod FixupLaws
 pub mod EntriesRead
 pub mod AllChecks
+pub mod SectionChecks
+pub mod OwnChecks
 pub mod Types
 pub mod Stands
 pub mod RecordsBack
@@ -23,6 +28,7 @@ pub mod ArrayBounds
 pub mod Bounds
 pub mod Carried
 pub mod Spellable
+pub mod ImageRead
 pub mod PutLemmas
 pub mod PlanLemmas
 pub mod Unread

@@ -14,12 +14,6 @@ pub slot_read : (bytes : List ℕ) (import : ImportSection) (array cells i : ℕ
 slot_read bytes import array cells i answer a b e =
     sym (e ∙ ap (λ (t : ℕ). slot_at bytes (t + 4 * i) (cells + 8 * i)) a ∙ ap (λ (t : ℕ). slot_at bytes (array_at bytes import + 4 * i) (t + 8 * i)) b)
 
-pub word_bad : (bytes : List ℕ) (import : ImportSection) (i : ℕ) → slot_of bytes import i ≡ None → bad_word bytes import i ≡ Some (array_at bytes import + 4 * i)
-word_bad bytes import i e = rw e refl
-
-pub word_good : (bytes : List ℕ) (import : ImportSection) (i : ℕ) (slot : Slot) → slot_of bytes import i ≡ Some slot → bad_word bytes import i ≡ None
-word_good bytes import i slot e = rw e refl
-
 -- ---- one step over the import records, of which i are behind
 
 pub first_bad_of-step : (bytes : List ℕ) (imports : List ImportSection) (i : ℕ) (d : ImportSection) → i < length imports → first_bad_word bytes (get_or imports i d) ≡ None → first_bad_of bytes (drop (i + 1) imports) ≡ first_bad_of bytes (drop i imports)

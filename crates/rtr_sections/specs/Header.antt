@@ -44,16 +44,18 @@ abbrev pub ascends : List ℕ → ℕ → Bool
 ascends bytes at = nat_lt (u32_of bytes (at - 12)) (u32_of bytes at)
 
 -- the range of such a section, where it isn't empty, is in a section of the file
+abbrev pub section_is_placed : List ℕ → RtrSection → Bool
+section_is_placed bytes section = not (is_own_kind section.kind) || section.size == 0 || is_some (place_of bytes section.rva section.size)
+
 abbrev pub range_is_placed : List ℕ → ℕ → Bool
-range_is_placed bytes at =
-    let section = rtr_section_at bytes at in
-    not (is_own_kind section.kind) || section.size == 0 || is_some (place_of bytes section.rva section.size)
+range_is_placed bytes at = section_is_placed bytes (rtr_section_at bytes at)
 
 -- ImportSections has whole records of 20 bytes
+abbrev pub has_whole_imports : RtrSection → Bool
+has_whole_imports section = not (section.kind == 101) || section.size % 20 == 0
+
 abbrev pub imports_are_whole : List ℕ → ℕ → Bool
-imports_are_whole bytes at =
-    let section = rtr_section_at bytes at in
-    not (section.kind == 101) || section.size % 20 == 0
+imports_are_whole bytes at = has_whole_imports (rtr_section_at bytes at)
 
 -- what is asked of a file with a native header alone
 abbrev pub if_native : List ℕ → Option ℕ → Option ℕ
@@ -85,8 +87,12 @@ size_checks =
     check 21 (λ bytes. if_native bytes (option_map (λ at. at + 8) (first_record (imports_are_whole bytes) (records_at bytes) 12 (record_count bytes))))
     ∷ []
 
+-- of the section records
+abbrev pub table_checks : List Check
+table_checks = order_checks ++ range_checks ++ size_checks
+
 unfoldable pub header_checks : List Check
-header_checks = place_checks ++ order_checks ++ range_checks ++ size_checks
+header_checks = place_checks ++ table_checks
 
 -- the identifier of this compiler's images, with its zero
 abbrev pub identifier : List ℕ

@@ -6,8 +6,10 @@
 #![tactic(auto)]
 
 mod bad_words;
+mod check;
 mod entries;
 mod entry_writer;
+mod file;
 mod functions;
 mod header;
 mod image;
@@ -15,6 +17,7 @@ mod imports;
 mod laws;
 mod pieces;
 mod plan;
+mod slot_lists;
 mod slots;
 mod written;
 
