@@ -40,7 +40,8 @@ none_left bytes end place far = record {
 }
 
 -- one more
-pub pushed : (bytes firsts : List ℕ) (end first i : ℕ) → length firsts ≡ i → AreFirstBad bytes end firsts → IsFirstBad bytes end (end - suc i) first
+pub pushed : (bytes firsts : List ℕ) (end first i : ℕ) → length firsts ≡ i → AreFirstBad bytes end firsts
+    → IsFirstBad bytes end (end - suc i) first
     → AreFirstBad bytes end (firsts ++ first ∷ [])
 pushed bytes firsts end first i len all one j low inside =
     elim (cases_lt j i) [
@@ -87,7 +88,8 @@ is_there bytes word cell = same_some (named_fixup bytes word) _
     same_some None f = refl
     same_some (Some x) f = refl
 
-good_word : (bytes : List ℕ) (import : ImportSection) (i : ℕ) → names_fixup bytes (array_at bytes import + 4 * i) ≡ true → bad_word bytes import i ≡ None
+good_word : (bytes : List ℕ) (import : ImportSection) (i : ℕ) → names_fixup bytes (array_at bytes import + 4 * i) ≡ true
+    → bad_word bytes import i ≡ None
 good_word bytes import i h = rw (is_there bytes (array_at bytes import + 4 * i) (cells_at bytes import + 8 * i), h) refl
 
 word_is_bad : (bytes : List ℕ) (import : ImportSection) (i : ℕ) → names_fixup bytes (array_at bytes import + 4 * i) ≡ false
@@ -110,20 +112,26 @@ none_at : (bytes : List ℕ) (import : ImportSection) (end first : ℕ) → IsFi
     → array_at bytes import + 4 * slot_count import ≤ first → array_at bytes import + 4 * slot_count import ≤ end
     → first_bad (bad_word bytes import) 0 (slot_count import) ≡ None
 none_at bytes import end first is above within =
-    first_bad-none (bad_word bytes import) 0 (slot_count import) (λ k below. good_word bytes import k (is.passed k (omega arith) (omega arith)))
+    first_bad-none (bad_word bytes import) 0 (slot_count import)
+    (λ k below. good_word bytes import k (is.passed k (omega arith) (omega arith)))
 
-pub found_in : (bytes : List ℕ) (import : ImportSection) (start end array first : ℕ) → array ≡ array_at bytes import → IsWithin bytes start end import
+pub found_in : (bytes : List ℕ) (import : ImportSection) (start end array first : ℕ) → array ≡ array_at bytes import
+    → IsWithin bytes start end import
     → IsFirstBad bytes end array first → first < array + 4 * slot_count import → first_bad_word bytes import ≡ Some first
 unfolding first_bad_word
 found_in bytes import start end array first at within is low =
-    found_at bytes import end first (subst (λ a. IsFirstBad bytes end a first) at is) (subst (λ a. first < a + 4 * slot_count import) at low) within.1
+    found_at bytes import end first (subst (λ a. IsFirstBad bytes end a first) at is)
+    (subst (λ a. first < a + 4 * slot_count import) at low) within.1
 
-pub none_in : (bytes : List ℕ) (import : ImportSection) (start end array first : ℕ) → array ≡ array_at bytes import → IsWithin bytes start end import
+pub none_in : (bytes : List ℕ) (import : ImportSection) (start end array first : ℕ) → array ≡ array_at bytes import
+    → IsWithin bytes start end import
     → IsFirstBad bytes end array first → array + 4 * slot_count import ≤ first → first_bad_word bytes import ≡ None
 unfolding first_bad_word
 none_in bytes import start end array first at within is above =
-    none_at bytes import end first (subst (λ a. IsFirstBad bytes end a first) at is) (subst (λ a. a + 4 * slot_count import ≤ first) at above) within.1
+    none_at bytes import end first (subst (λ a. IsFirstBad bytes end a first) at is)
+    (subst (λ a. a + 4 * slot_count import ≤ first) at above) within.1
 
 -- a range that grows still has what it had
-pub wider : (bytes : List ℕ) (s e s2 e2 : ℕ) (import : ImportSection) → s2 ≤ s → e ≤ e2 → IsWithin bytes s e import → IsWithin bytes s2 e2 import
+pub wider : (bytes : List ℕ) (s e s2 e2 : ℕ) (import : ImportSection) → s2 ≤ s → e ≤ e2 → IsWithin bytes s e import
+    → IsWithin bytes s2 e2 import
 wider bytes s e s2 e2 import low high h = (omega (arith, h.0), omega (arith, h.1))

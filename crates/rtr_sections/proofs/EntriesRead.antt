@@ -22,16 +22,19 @@ whole bytes array is =
 
 -- ---- one index
 
-pub entry_some : (bytes : List ℕ) (part : Span) (a : Array) (i at : ℕ) → content_of (element_of a i) ≡ Some at → entry_of bytes part a i ≡ entry_at bytes part (i + 1) at
+pub entry_some : (bytes : List ℕ) (part : Span) (a : Array) (i at : ℕ) → content_of (element_of a i) ≡ Some at
+    → entry_of bytes part a i ≡ entry_at bytes part (i + 1) at
 entry_some bytes part a i at e = rw e refl
 
 pub entry_none : (bytes : List ℕ) (part : Span) (a : Array) (i : ℕ) → content_of (element_of a i) ≡ None → entry_of bytes part a i ≡ None
 entry_none bytes part a i e = rw e refl
 
-pub place_some : (bytes : List ℕ) (part : Span) (imports : List ImportSection) (functions : ℕ) (a : Array) (i at : ℕ) → content_of (element_of a i) ≡ Some at
+pub place_some : (bytes : List ℕ) (part : Span) (imports : List ImportSection) (functions : ℕ) (a : Array) (i at : ℕ)
+    → content_of (element_of a i) ≡ Some at
     → unlinked_index bytes part imports functions a i ≡ unlinked_head bytes part imports functions at
 place_some bytes part imports functions a i at e = rw e refl
 
-pub place_none : (bytes : List ℕ) (part : Span) (imports : List ImportSection) (functions : ℕ) (a : Array) (i : ℕ) → content_of (element_of a i) ≡ None
+pub place_none : (bytes : List ℕ) (part : Span) (imports : List ImportSection) (functions : ℕ) (a : Array) (i : ℕ)
+    → content_of (element_of a i) ≡ None
     → unlinked_index bytes part imports functions a i ≡ None
 place_none bytes part imports functions a i e = rw e refl

@@ -21,7 +21,8 @@ use Rattle.rtr_sections.proofs.Listed.{record_past, record_there}
 -- ---- the whole entry
 
 made_by_id : (bytes : List ℕ) (row function : ℕ) (bare : Bool) (place : Option ℕ)
-    → option_map (λ slots. record { row = row; function = function; fixups = slots }) (cond bare (Some []) (option_and_then (list_at bytes) place))
+    → option_map (λ slots. record { row = row; function = function; fixups = slots })
+    (cond bare (Some []) (option_and_then (list_at bytes) place))
     ≡ option_and_then (entry_of_head bytes row) (cond bare (Some (head function None)) (option_map (λ p. head function (Some p)) place))
 made_by_id bytes row function true place = refl
 made_by_id bytes row function false None = refl
@@ -34,7 +35,8 @@ made_by_head bytes part row None = refl
 made_by_head bytes part row (Some (id, behind)) =
     made_by_id bytes row (function_of_id id) (id % 2 == 0) (list_place (bytes_in bytes part) part.start id behind)
 
-pub entry_by_head : (bytes : List ℕ) (part : Span) (row at : ℕ) → entry_at bytes part row at ≡ option_and_then (entry_of_head bytes row) (head_at bytes part at)
+pub entry_by_head : (bytes : List ℕ) (part : Span) (row at : ℕ)
+    → entry_at bytes part row at ≡ option_and_then (entry_of_head bytes row) (head_at bytes part at)
 unfolding entry_at head_at
 entry_by_head bytes part row at = made_by_head bytes part row (uint_at (bytes_in bytes part) at)
 
@@ -44,8 +46,16 @@ slot_exists : (bytes : List ℕ) (imports : Span) (r : SlotRef) → names_slot b
 unfolding imports_in
 slot_exists bytes imports r =
     elim (cases_lt r.section (import_count imports)) [
-      | inl below ↦ rw (lt-ltb r.section (import_count imports) below, record_there (import_at bytes) imports.start 20 (import_count imports) r.section below) refl
-      | inr above ↦ rw (le-ltb r.section (import_count imports) above, record_past (import_at bytes) imports.start 20 (import_count imports) r.section above) refl
+      | inl below ↦ rw (
+        lt-ltb r.section (import_count imports) below,
+        record_there (import_at bytes) imports.start 20
+            (import_count imports) r.section below,
+      ) refl
+      | inr above ↦ rw (
+        le-ltb r.section (import_count imports) above,
+        record_past (import_at bytes) imports.start 20
+            (import_count imports) r.section above,
+      ) refl
     ]
 
 all_alike : {X : Type 0} (f g : X → Bool) (xs : List X) → ((x : X) → f x ≡ g x) → list_all f xs ≡ list_all g xs
@@ -53,7 +63,8 @@ all_alike f g [] same = refl
 all_alike f g (x ∷ xs) same = rw (same x, all_alike f g xs same) refl
 
 linked_list : (bytes : List ℕ) (imports : Span) (functions row function : ℕ) (list : Option (List SlotRef))
-    → option_map_or (is_linked bytes imports functions) (option_map (λ slots. record { row = row; function = function; fixups = slots }) list) false
+    → option_map_or (is_linked bytes imports functions)
+    (option_map (λ slots. record { row = row; function = function; fixups = slots }) list) false
     ≡ (ltb function functions && option_map_or (list_all (exists_in (imports_in bytes imports))) list false)
 unfolding is_linked
 linked_list bytes imports functions row function None = no_and (ltb function functions)
@@ -65,11 +76,15 @@ linked_list bytes imports functions row function (Some slots) =
     ap (λ (b : Bool). ltb function functions && b) (all_alike _ _ slots (slot_exists bytes imports))
 
 linked_head : (bytes : List ℕ) (imports : Span) (functions row : ℕ) (h : EntryHead)
-    → option_map_or (is_linked bytes imports functions) (entry_of_head bytes row h) false ≡ is_linked_head bytes (imports_in bytes imports) functions h
+    → option_map_or (is_linked bytes imports functions) (entry_of_head bytes row h) false ≡ is_linked_head bytes
+    (imports_in bytes imports) functions h
 unfolding links_at is_linked
 linked_head bytes imports functions row h = go h.list
   where
-    go : (list : Option ℕ) → option_map_or (is_linked bytes imports functions) (option_map (λ slots. record { row = row; function = h.function; fixups = slots }) (option_map_or (list_at bytes) list (Some []))) false
+    go : (list : Option ℕ)
+        → option_map_or (is_linked bytes imports functions)
+        (option_map (λ slots. record { row = row; function = h.function; fixups = slots })
+        (option_map_or (list_at bytes) list (Some []))) false
         ≡ (ltb h.function functions && option_map_or (links_at bytes (imports_in bytes imports)) list true)
     go None = refl
     go (Some p) = linked_list bytes imports functions row h.function (list_at bytes p)
@@ -83,7 +98,9 @@ linked_of bytes imports functions row (Some h) = linked_head bytes imports funct
 unlinked_is : (bytes : List ℕ) (part imports : Span) (functions row at : ℕ)
     → unlinked_at bytes part imports functions row at ≡ unlinked_head bytes part (imports_in bytes imports) functions at
 unlinked_is bytes part imports functions row at =
-    ap (λ (b : Bool). cond b None (Some (part.start + at))) (ap (λ (o : Option EntryPoint). option_map_or (is_linked bytes imports functions) o false) (entry_by_head bytes part row at) ∙ linked_of bytes imports functions row (head_at bytes part at))
+    ap (λ (b : Bool). cond b None (Some (part.start + at)))
+    (ap (λ (o : Option EntryPoint). option_map_or (is_linked bytes imports functions) o false) (entry_by_head bytes part row at)
+    ∙ linked_of bytes imports functions row (head_at bytes part at))
 
 -- ---- of all entries
 
@@ -91,7 +108,9 @@ index_is : (bytes : List ℕ) (part imports : Span) (functions : ℕ) (array : A
     → unlinked_place bytes part imports functions array index ≡ unlinked_index bytes part (imports_in bytes imports) functions array index
 index_is bytes part imports functions array index = go (content_of (element_of array index))
   where
-    go : (at : Option ℕ) → option_and_then (unlinked_at bytes part imports functions (index + 1)) at ≡ option_and_then (unlinked_head bytes part (imports_in bytes imports) functions) at
+    go : (at : Option ℕ)
+        → option_and_then (unlinked_at bytes part imports functions (index + 1)) at ≡ option_and_then
+        (unlinked_head bytes part (imports_in bytes imports) functions) at
     go None = refl
     go (Some at) = unlinked_is bytes part imports functions (index + 1) at
 

@@ -19,7 +19,8 @@ pub image_own : (bytes : List ℕ) (image : Image) → image ≡ image_of bytes 
 unfolding image_of
 image_own bytes image e = rw e (own_of (is_own bytes) bytes)
 
-spellable_of : (own : Bool) (bytes : List ℕ) → All (λ (slot : Slot). IsSpellable slot.fixup) (cond own (own_image_of bytes) (foreign_image_of bytes)).slots
+spellable_of : (own : Bool) (bytes : List ℕ)
+    → All (λ (slot : Slot). IsSpellable slot.fixup) (cond own (own_image_of bytes) (foreign_image_of bytes)).slots
 unfolding foreign_image_of
 spellable_of true bytes = own_spellable bytes (own_image_of bytes) refl
 spellable_of false bytes = All-nil (λ (slot : Slot). IsSpellable slot.fixup)

@@ -7,7 +7,8 @@ use Rattle.rtr_sections.specs.Listed.{first_failing, first_overlap}
 use Rattle.rtr_sections.specs.Imports.{follows, foreign_import, import_at, import_count, imports_in, is_own_import, out_of_order}
 use Rattle.rtr_sections.proofs.Listed.{Compares, failing_is, overlap_is, records-length}
 
-pub forms_are : (bytes : List ℕ) (part : Span) → foreign_import bytes part ≡ first_failing (is_own_import bytes) part.start 20 (imports_in bytes part)
+pub forms_are : (bytes : List ℕ) (part : Span)
+    → foreign_import bytes part ≡ first_failing (is_own_import bytes) part.start 20 (imports_in bytes part)
 unfolding foreign_import imports_in
 forms_are bytes part = failing_is (is_own_import bytes) (import_at bytes) part.start 20 (import_count part)
 
@@ -15,7 +16,8 @@ pub cells_are : (bytes : List ℕ) (part : Span)
     → out_of_order bytes part ≡ first_overlap (λ i. i.rva) (λ i. i.rva + i.size) 0 part.start 20 (imports_in bytes part)
 unfolding out_of_order imports_in
 cells_are bytes part =
-    overlap_is (follows bytes) (import_at bytes) (λ (i : ImportSection). i.rva) (λ (i : ImportSection). i.rva + i.size) 20 (record { same = λ at. refl }) part.start (import_count part)
+    overlap_is (follows bytes) (import_at bytes) (λ (i : ImportSection). i.rva) (λ (i : ImportSection). i.rva + i.size) 20
+    (record { same = λ at. refl }) part.start (import_count part)
 
 -- they end in the part
 pub imports_within : (bytes : List ℕ) (part : Span) → part.start + 20 * length (imports_in bytes part) ≤ part.start + part.len

@@ -20,7 +20,8 @@ pub failing-found : {X : Type 0} (test : X → Bool) (at size i : ℕ) (xs : Lis
     → first_failing test at size (drop i xs) ≡ Some at
 failing-found test at size i xs d h fails = rw (drop_more xs i d h, fails) refl
 
-pub failing-end : {X : Type 0} (test : X → Bool) (at size i : ℕ) (xs : List X) → length xs ≤ i → first_failing test at size (drop i xs) ≡ None
+pub failing-end : {X : Type 0} (test : X → Bool) (at size i : ℕ) (xs : List X) → length xs ≤ i
+    → first_failing test at size (drop i xs) ≡ None
 failing-end test at size i xs h = rw (drop_all i xs h) refl
 
 pub overlap-step : {X : Type 0} (begin end : X → ℕ) (low at size i : ℕ) (xs : List X) (d : X) → i < length xs → low ≤ begin (get_or xs i d)
@@ -50,8 +51,10 @@ overlap_from : {X : Type 0} (test : ℕ → Bool) (f : ℕ → X) (begin end : X
 overlap_from test f begin end size c at zero = refl
 overlap_from test f begin end size c at (suc n) =
     let back : at + size - size ≡ at = omega arith in
-    let here : test (at + size) ≡ leb (end (f at)) (begin (f (at + size))) = c.same (at + size) ∙ ap (λ (t : ℕ). leb (end (f t)) (begin (f (at + size)))) back in
-    rw here (ap (λ (o : Option ℕ). cond (leb (end (f at)) (begin (f (at + size)))) o (Some (at + size))) (overlap_from test f begin end size c (at + size) n))
+    let here : test (at + size) ≡ leb (end (f at)) (begin (f (at + size))) = c.same (at + size)
+    ∙ ap (λ (t : ℕ). leb (end (f t)) (begin (f (at + size)))) back in
+    rw here (ap (λ (o : Option ℕ). cond (leb (end (f at)) (begin (f (at + size)))) o (Some (at + size)))
+    (overlap_from test f begin end size c (at + size) n))
 
 -- the first record has none before it
 pub overlap_is : {X : Type 0} (test : ℕ → Bool) (f : ℕ → X) (begin end : X → ℕ) (size : ℕ) → Compares test f begin end size → (at n : ℕ)
@@ -71,22 +74,30 @@ below_next a b =
     ]
 
 pub kinds_are : (bytes : List ℕ) (a b n : ℕ) → (0 < n → a ≡ b)
-    → first_record (ascends bytes) (b + 12) 12 (n - 1) ≡ first_overlap (λ s. s.kind) (λ s. s.kind + 1) 0 a 12 (records (rtr_section_at bytes) a 12 n)
+    → first_record (ascends bytes) (b + 12) 12 (n - 1) ≡ first_overlap (λ s. s.kind) (λ s. s.kind + 1) 0 a 12
+    (records (rtr_section_at bytes) a 12 n)
 kinds_are bytes a b zero same = refl
 kinds_are bytes a b (suc n) same =
-    rw (same (omega arith)) (overlap_is (ascends bytes) (rtr_section_at bytes) (λ (s : RtrSection). s.kind) (λ (s : RtrSection). s.kind + 1) 12 (record { same = λ at. below_next _ _ }) b (suc n))
+    rw (same (omega arith))
+    (overlap_is (ascends bytes) (rtr_section_at bytes) (λ (s : RtrSection). s.kind) (λ (s : RtrSection). s.kind + 1) 12
+    (record { same = λ at. below_next _ _ }) b (suc n))
 
 pub ranges_are : (bytes : List ℕ) (a b n : ℕ) → (0 < n → a ≡ b)
-    → option_map (λ p. p + 4) (first_record (range_is_placed bytes) b 12 n) ≡ option_map (λ p. p + 4) (first_failing (section_is_placed bytes) a 12 (records (rtr_section_at bytes) a 12 n))
+    → option_map (λ p. p + 4) (first_record (range_is_placed bytes) b 12 n) ≡ option_map (λ p. p + 4)
+    (first_failing (section_is_placed bytes) a 12 (records (rtr_section_at bytes) a 12 n))
 ranges_are bytes a b zero same = refl
-ranges_are bytes a b (suc n) same = rw (same (omega arith)) (ap (option_map (λ p. p + 4)) (failing_is (section_is_placed bytes) (rtr_section_at bytes) b 12 (suc n)))
+ranges_are bytes a b (suc n) same =
+    rw (same (omega arith)) (ap (option_map (λ p. p + 4)) (failing_is (section_is_placed bytes) (rtr_section_at bytes) b 12 (suc n)))
 
 pub sizes_are : (bytes : List ℕ) (a b n : ℕ) → (0 < n → a ≡ b)
-    → option_map (λ p. p + 8) (first_record (imports_are_whole bytes) b 12 n) ≡ option_map (λ p. p + 8) (first_failing has_whole_imports a 12 (records (rtr_section_at bytes) a 12 n))
+    → option_map (λ p. p + 8) (first_record (imports_are_whole bytes) b 12 n) ≡ option_map (λ p. p + 8)
+    (first_failing has_whole_imports a 12 (records (rtr_section_at bytes) a 12 n))
 sizes_are bytes a b zero same = refl
-sizes_are bytes a b (suc n) same = rw (same (omega arith)) (ap (option_map (λ p. p + 8)) (failing_is has_whole_imports (rtr_section_at bytes) b 12 (suc n)))
+sizes_are bytes a b (suc n) same =
+    rw (same (omega arith)) (ap (option_map (λ p. p + 8)) (failing_is has_whole_imports (rtr_section_at bytes) b 12 (suc n)))
 
-pub sections_are : (bytes : List ℕ) (a b n : ℕ) → (0 < n → a ≡ b) → records (rtr_section_at bytes) a 12 n ≡ records (rtr_section_at bytes) b 12 n
+pub sections_are : (bytes : List ℕ) (a b n : ℕ) → (0 < n → a ≡ b)
+    → records (rtr_section_at bytes) a 12 n ≡ records (rtr_section_at bytes) b 12 n
 sections_are bytes a b zero same = refl
 sections_are bytes a b (suc n) same = rw (same (omega arith)) refl
 

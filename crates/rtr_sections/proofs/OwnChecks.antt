@@ -45,12 +45,14 @@ own_are rows bytes native own = rw (native, own) refl
 
 -- ---- one answer after others
 
-found : (n : ℕ) (o : Option ℕ) (others : Option Fault) (e : ReadRefusal) → RefusedBy (fault_or n o None) e → RefusedBy (fault_or n o others) e
+found : (n : ℕ) (o : Option ℕ) (others : Option Fault) (e : ReadRefusal) → RefusedBy (fault_or n o None) e
+    → RefusedBy (fault_or n o others) e
 found n o others refusals.NoMemory told = tt
 found n None others (refusals.Malformed f) told = absurd (let x : ⊥ = cc in x)
 found n (Some place) others (refusals.Malformed f) told = told
 
-found_entries : (a b c : Option ℕ) (others : Option Fault) (e : ReadRefusal) → RefusedBy (fault_or 63 a (fault_or 64 b (fault_or 65 c None))) e
+found_entries : (a b c : Option ℕ) (others : Option Fault) (e : ReadRefusal)
+    → RefusedBy (fault_or 63 a (fault_or 64 b (fault_or 65 c None))) e
     → RefusedBy (fault_or 63 a (fault_or 64 b (fault_or 65 c others))) e
 found_entries a b c others refusals.NoMemory told = tt
 found_entries (Some p) b c others (refusals.Malformed f) told = told

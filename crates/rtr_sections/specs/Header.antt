@@ -57,6 +57,10 @@ has_whole_imports section = not (section.kind == 101) || section.size % 20 == 0
 abbrev pub imports_are_whole : List ℕ → ℕ → Bool
 imports_are_whole bytes at = has_whole_imports (rtr_section_at bytes at)
 
+-- the place of the first section record that fails a test of its place
+abbrev pub first_section : (ℕ → Bool) → List ℕ → Option ℕ
+first_section test bytes = first_record test (records_at bytes) 12 (record_count bytes)
+
 -- what is asked of a file with a native header alone
 abbrev pub if_native : List ℕ → Option ℕ → Option ℕ
 if_native bytes place = if is_some (native_of bytes) then place else None
@@ -79,12 +83,12 @@ order_checks =
 -- the sections that this compiler writes are in a section of the file
 abbrev pub range_checks : List Check
 range_checks =
-    check 20 (λ bytes. if_native bytes (option_map (λ at. at + 4) (first_record (range_is_placed bytes) (records_at bytes) 12 (record_count bytes))))
+    check 20 (λ bytes. if_native bytes (option_map (λ at. at + 4) (first_section (range_is_placed bytes) bytes)))
     ∷ []
 
 abbrev pub size_checks : List Check
 size_checks =
-    check 21 (λ bytes. if_native bytes (option_map (λ at. at + 8) (first_record (imports_are_whole bytes) (records_at bytes) 12 (record_count bytes))))
+    check 21 (λ bytes. if_native bytes (option_map (λ at. at + 8) (first_section (imports_are_whole bytes) bytes)))
     ∷ []
 
 -- of the section records
@@ -101,12 +105,14 @@ identifier = codes "r2r profile 1" ++ 0 ∷ []
 -- the section's bytes are the identifier
 abbrev pub is_identifier : List ℕ → RtrSection → Bool
 is_identifier bytes section =
-    section.kind == 100 && section.size == 14 && option_map_or (λ at. starts_with nat_eq (drop at bytes) identifier) (place_of bytes section.rva 14) false
+    section.kind == 100 && section.size == 14
+    && option_map_or (λ at. starts_with nat_eq (drop at bytes) identifier) (place_of bytes section.rva 14) false
 
 -- an image of this compiler: for A64, of version 5.0, with the identifier
 unfoldable pub is_own : List ℕ → Bool
 is_own bytes =
-    machine_of bytes == 0xAA64 && u16_of bytes (native_at bytes + 4) == 5 && u16_of bytes (native_at bytes + 6) == 0 && list_any (is_identifier bytes) (rtr_sections_of bytes)
+    machine_of bytes == 0xAA64 && u16_of bytes (native_at bytes + 4) == 5 && u16_of bytes (native_at bytes + 6) == 0
+    && list_any (is_identifier bytes) (rtr_sections_of bytes)
 
 -- the header that stands in a file with a native header
 unfoldable pub rtr_header_of : List ℕ → RtrHeader

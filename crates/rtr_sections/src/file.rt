@@ -61,7 +61,11 @@ impl<'a> File<'a> {
     {
         let tail = self.tail(part.start);
         let len = part.len as usize;
-        if len <= tail.len() { &tail[..len] } else { tail }
+        if len <= tail.len() {
+            &tail[..len]
+        } else {
+            tail
+        }
     }
 
     /// The byte at a file offset, and 0 after the end.

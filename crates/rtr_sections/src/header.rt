@@ -111,7 +111,11 @@ fn locate(file: &File<'_>, native: Span) -> Result<HeaderPlaces, Fault>
             place: file.cli_at() + 64,
         });
     };
-    ensure(file.u32_at(header) == SIGNATURE, Check::Signature as u16, header)?;
+    ensure(
+        file.u32_at(header) == SIGNATURE,
+        Check::Signature as u16,
+        header,
+    )?;
     let count = file.u32_at(header + 12);
     match records_in(file, native.start, count) {
         Some(records) => Ok(HeaderPlaces {
@@ -157,9 +161,7 @@ impl RtrSection {
     fn is_placed(&self, file: &File<'_>) -> bool
         ensures { result ≡ section_is_placed file.now self.now }
     {
-        !self.is_own_kind()
-            || self.size == 0
-            || file.place_of(self.rva, self.size).is_some()
+        !self.is_own_kind() || self.size == 0 || file.place_of(self.rva, self.size).is_some()
     }
 
     /// Whether it has a size of whole import records, or is no ImportSections.
@@ -242,7 +244,11 @@ fn check_ranges(file: &File<'_>, sections: &[RtrSection], at: u32) -> Result<(),
 {
     let mut place = at;
     for section in sections {
-        ensure(section.is_placed(file), Check::SectionRange as u16, place + 4)?;
+        ensure(
+            section.is_placed(file),
+            Check::SectionRange as u16,
+            place + 4,
+        )?;
         place += RECORD_SIZE;
     }
     Ok(())
@@ -256,7 +262,11 @@ fn check_sizes(sections: &[RtrSection], at: u32) -> Result<(), Fault>
 {
     let mut place = at;
     for section in sections {
-        ensure(section.has_whole_imports(), Check::ImportSectionsSize as u16, place + 8)?;
+        ensure(
+            section.has_whole_imports(),
+            Check::ImportSectionsSize as u16,
+            place + 8,
+        )?;
         place += RECORD_SIZE;
     }
     Ok(())

@@ -41,7 +41,7 @@ pub struct Image {
 
 impl Image {
     /// Whether this compiler wrote the image: it is for A64 and of version 5.0, and its compiler identifier is
-    /// `r2r profile 1` with a zero behind it.
+    /// `r2r profile 1` with a zero after it.
     pub fn own(&self) -> bool
         ensures { result ≡ self.now.own }
     {
@@ -108,11 +108,7 @@ fn read_own(
 
 /// The ReadyToRun part of a file, whose assembly has so many MethodDef rows.
 #[tactic(auto, unfolding(crate::specs::Image::image_of, crate::specs::Image::foreign_image_of))]
-fn read_image(
-    alloc: Global,
-    file: &File<'_>,
-    method_rows: u32,
-) -> Result<Image, ReadRefusal>
+fn read_image(alloc: Global, file: &File<'_>, method_rows: u32) -> Result<Image, ReadRefusal>
     requires native { is_some (native_of file.now) ≡ true }
     ensures malformed { IfErr result (λ e. RefusedBy (first_fault (rtr_checks method_rows) file.now) e) }
     ensures well_formed { OnOk result (first_fault (rtr_checks method_rows) file.now ≡ None) }

@@ -134,18 +134,18 @@ pub(crate) fn read_imports(
     for i in 0..part.len / RECORD_SIZE {
         let place = part.start + RECORD_SIZE * i;
         let import = ImportSection::read(file, place);
-        ensure(import.has_placed_cells(file), Check::ImportCells as u16, place)?;
+        ensure(
+            import.has_placed_cells(file),
+            Check::ImportCells as u16,
+            place,
+        )?;
         imports.push(import)?;
     }
     Ok(imports)
 }
 
 /// Import records, of which the first is at a place, have the form of this compiler's.
-pub(crate) fn check_forms(
-    file: &File<'_>,
-    imports: &[ImportSection],
-    at: u32,
-) -> Result<(), Fault>
+pub(crate) fn check_forms(file: &File<'_>, imports: &[ImportSection], at: u32) -> Result<(), Fault>
     requires in_reach { at + 20 * length imports.now < 2 ^ 32 }
     ensures fault { IfErr result (λ f. fault_or 60 (first_failing (is_own_import file.now) at 20 imports.now) None ≡ Some f) }
     ensures ok { OnOk result (first_failing (is_own_import file.now) at 20 imports.now ≡ None) }

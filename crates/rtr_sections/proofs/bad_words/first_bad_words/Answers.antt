@@ -13,5 +13,8 @@ loop-i-preserved c =
     let here : end - 1 - i ≡ end - suc i = omega arith in
     record {
       count = rw (c.in_ok-push.ensures.items, length-append) (omega arith);
-      firsts = rw c.in_ok-push.ensures.items (pushed bytes c.loop-i.firsts.items end first i c.loop-i.invariant.count c.loop-i.invariant.firsts (subst (λ p. IsFirstBad bytes end p first) here c.first_at-first.ensures));
+      firsts =
+          rw c.in_ok-push.ensures.items
+          (pushed bytes c.loop-i.firsts.items end first i c.loop-i.invariant.count c.loop-i.invariant.firsts
+          (subst (λ p. IsFirstBad bytes end p first) here c.first_at-first.ensures));
     }

@@ -23,7 +23,8 @@ loop-index-preserved c =
           let at = w.in-Some.at in
           let content : content_of (element_of a i) ≡ Some at = sym c.content_at.ensures.place ∙ w.in-Some.is in
           let linked : is_linked_at bytes part imports functions at ≡ true =
-          ap (λ (l : Linking). is_linked_at bytes part l.imports functions at) (sym same) ∙ sym w.is_linked_at-linked.ensures.linked ∙ w.in_ok-ensure.ensures.holds in
+          ap (λ (l : Linking). is_linked_at bytes part l.imports functions at) (sym same) ∙ sym w.is_linked_at-linked.ensures.linked
+          ∙ w.in_ok-ensure.ensures.holds in
           let good : bad i ≡ None =
           place_some bytes part imports functions a i at content ∙ ap (λ (b : Bool). cond b None (Some (part.start + at))) linked in
           record {
@@ -33,7 +34,8 @@ loop-index-preserved c =
       | in_default w ↦
           let content : content_of (element_of a i) ≡ None = sym c.content_at.ensures.place ∙ w.in_default.is in
           record {
-            checked = sym (first_bad-step bad a.count i below (place_none bytes part imports functions a i content)) ∙ c.loop-index.invariant.checked;
+            checked = sym (first_bad-step bad a.count i below (place_none bytes part imports functions a i content))
+                ∙ c.loop-index.invariant.checked;
             same = w.lists-is ∙ same;
           }
     ]

@@ -31,7 +31,8 @@ returns-in_err-function-clause-fault c =
     let n = function_count c.args.part in
     let fault = c.in_err-function.ensures.fault in
     let below : i < n = omega arith in
-    let fails : function_holds bytes start (start + 8 * i) ≡ false = ap (λ (low : ℕ). holds_behind bytes low (start + 8 * i)) (sym c.loop-i.invariant.behind) ∙ fault.0 in
+    let fails : function_holds bytes start (start + 8 * i) ≡ false =
+    ap (λ (low : ℕ). holds_behind bytes low (start + 8 * i)) (sym c.loop-i.invariant.behind) ∙ fault.0 in
     let first : first_record (function_holds bytes start) start 8 n ≡ Some (start + 8 * i) =
     sym c.loop-i.invariant.checked ∙ first_record-found (function_holds bytes start) start 8 n i below fails in
     let whole : (c.args.part.len % 8 == 0) ≡ true = c.in_ok-ensure.ensures.holds in
@@ -45,10 +46,13 @@ loop-i-preserved c =
     let n = function_count c.args.part in
     let read = c.in_ok-function.ensures in
     let below : i < n = omega arith in
-    let holds : function_holds bytes start (start + 8 * i) ≡ true = ap (λ (low : ℕ). holds_behind bytes low (start + 8 * i)) (sym c.loop-i.invariant.behind) ∙ read.holds in
+    let holds : function_holds bytes start (start + 8 * i) ≡ true =
+    ap (λ (low : ℕ). holds_behind bytes low (start + 8 * i)) (sym c.loop-i.invariant.behind) ∙ read.holds in
     record {
       read =
-          rw c.in_ok-push.ensures.items (records-more (function_at bytes) start 8 n i c.loop-i.functions.items (records (function_at bytes) start 8 n) c.in_ok-function.function below read.function c.loop-i.invariant.read);
+          rw c.in_ok-push.ensures.items
+          (records-more (function_at bytes) start 8 n i c.loop-i.functions.items
+          (records (function_at bytes) start 8 n) c.in_ok-function.function below read.function c.loop-i.invariant.read);
       checked = sym (first_record-step (function_holds bytes start) start 8 n i below holds) ∙ c.loop-i.invariant.checked;
       behind = c.end-low.ensures ∙ end_before-next bytes start i c.in_ok-function.function read.function;
     }
@@ -69,4 +73,5 @@ unfolding functions_in
 returns-clause-functions c =
     let bytes = c.args.file.now in
     let n = function_count c.args.part in
-    records-end (function_at bytes) (c.args.part.start + 8 * c.loop-i.i) 8 n c.loop-i.i c.loop-i.functions.items (records (function_at bytes) c.args.part.start 8 n) (omega arith) c.loop-i.invariant.read
+    records-end (function_at bytes) (c.args.part.start + 8 * c.loop-i.i) 8 n c.loop-i.i c.loop-i.functions.items
+    (records (function_at bytes) c.args.part.start 8 n) (omega arith) c.loop-i.invariant.read

@@ -8,11 +8,12 @@ use Rattle.rtr_sections.proofs.ImageRead.{image_own, image_spellable}
 use Rattle.rtr_sections.proofs.image.read_rtr.Goals as goal
 
 pub read_image-requires : goal.read_image-requires
-read_image-requires c = record { native = rw c.new-file.ensures c.requires.native; }
+read_image-requires c = record { native = rw c.new-file.ensures c.requires.native }
 
 pub returns-clause-malformed : goal.returns-clause-malformed
 returns-clause-malformed c =
-    let P : List ℕ → Type 0 = λ b. IfErr c.read_image.result (λ (e : ReadRefusal). RefusedBy (first_fault (rtr_checks c.args.method_rows) b) e) in
+    let P : List ℕ → Type 0 =
+    λ b. IfErr c.read_image.result (λ (e : ReadRefusal). RefusedBy (first_fault (rtr_checks c.args.method_rows) b) e) in
     subst P c.new-file.ensures c.read_image.ensures.malformed
 
 pub returns-clause-well_formed : goal.returns-clause-well_formed
@@ -28,9 +29,11 @@ returns-clause-image c =
 pub returns-clause-own : goal.returns-clause-own
 returns-clause-own c =
     let P : List ℕ → Type 0 = λ b. IfOk c.read_image.result (λ (image : Image). image ≡ image_of b) in
-    IfOk-weaker c.read_image.result _ _ (λ image e. image_own c.args.bytes.now image e) (subst P c.new-file.ensures c.read_image.ensures.image)
+    IfOk-weaker c.read_image.result _ _ (λ image e. image_own c.args.bytes.now image e)
+    (subst P c.new-file.ensures c.read_image.ensures.image)
 
 pub returns-clause-spellable : goal.returns-clause-spellable
 returns-clause-spellable c =
     let P : List ℕ → Type 0 = λ b. IfOk c.read_image.result (λ (image : Image). image ≡ image_of b) in
-    IfOk-weaker c.read_image.result _ _ (λ image e. image_spellable c.args.bytes.now image e) (subst P c.new-file.ensures c.read_image.ensures.image)
+    IfOk-weaker c.read_image.result _ _ (λ image e. image_spellable c.args.bytes.now image e)
+    (subst P c.new-file.ensures c.read_image.ensures.image)

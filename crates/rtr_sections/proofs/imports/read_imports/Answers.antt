@@ -14,7 +14,8 @@ returns-in_err-ensure-clause-fault c =
     let i = c.loop-i.i in
     let fault = c.in_err-ensure.ensures.fault in
     let import = c.read-import.ensures in
-    let fails : cells_are_placed bytes (start + 20 * i) ≡ false = ap (has_placed_cells bytes) (sym import) ∙ sym c.has_placed_cells.ensures ∙ fault.0 in
+    let fails : cells_are_placed bytes (start + 20 * i) ≡ false = ap (has_placed_cells bytes) (sym import)
+    ∙ sym c.has_placed_cells.ensures ∙ fault.0 in
     let below : i < import_count c.args.part = omega arith in
     let first : first_record (cells_are_placed bytes) start 20 (import_count c.args.part) ≡ Some (start + 20 * i) =
     sym c.loop-i.invariant.checked ∙ first_record-found (cells_are_placed bytes) start 20 (import_count c.args.part) i below fails in
@@ -27,22 +28,28 @@ loop-i-preserved c =
     let n = import_count c.args.part in
     let i = c.loop-i.i in
     let import = c.read-import.ensures in
-    let holds : cells_are_placed bytes (start + 20 * i) ≡ true = ap (has_placed_cells bytes) (sym import) ∙ sym c.has_placed_cells.ensures ∙ c.in_ok-ensure.ensures.holds in
+    let holds : cells_are_placed bytes (start + 20 * i) ≡ true = ap (has_placed_cells bytes) (sym import)
+    ∙ sym c.has_placed_cells.ensures ∙ c.in_ok-ensure.ensures.holds in
     let below : i < n = omega arith in
     record {
       read =
-          rw c.in_ok-push.ensures.items (records-more (import_at bytes) start 20 n i c.loop-i.imports.items (records (import_at bytes) start 20 n) c.read-import.result below import c.loop-i.invariant.read);
+          rw c.in_ok-push.ensures.items
+          (records-more (import_at bytes) start 20 n i c.loop-i.imports.items
+          (records (import_at bytes) start 20 n) c.read-import.result below import c.loop-i.invariant.read);
       checked = sym (first_record-step (cells_are_placed bytes) start 20 n i below holds) ∙ c.loop-i.invariant.checked;
     }
 
 pub returns-clause-ok : goal.returns-clause-ok
 unfolding unplaced_cells
 returns-clause-ok c =
-    sym c.loop-i.invariant.checked ∙ first_record-end (cells_are_placed c.args.file.now) (c.args.part.start + 20 * c.loop-i.i) 20 (import_count c.args.part) c.loop-i.i (omega arith)
+    sym c.loop-i.invariant.checked
+    ∙ first_record-end (cells_are_placed c.args.file.now) (c.args.part.start + 20 * c.loop-i.i) 20 (import_count c.args.part) c.loop-i.i
+    (omega arith)
 
 pub returns-clause-imports : goal.returns-clause-imports
 unfolding imports_in
 returns-clause-imports c =
     let bytes = c.args.file.now in
     let n = import_count c.args.part in
-    records-end (import_at bytes) (c.args.part.start + 20 * c.loop-i.i) 20 n c.loop-i.i c.loop-i.imports.items (records (import_at bytes) c.args.part.start 20 n) (omega arith) c.loop-i.invariant.read
+    records-end (import_at bytes) (c.args.part.start + 20 * c.loop-i.i) 20 n c.loop-i.i c.loop-i.imports.items
+    (records (import_at bytes) c.args.part.start 20 n) (omega arith) c.loop-i.invariant.read

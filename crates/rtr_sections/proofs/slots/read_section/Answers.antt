@@ -18,7 +18,8 @@ loop-i-preserved c =
     slot_read bytes import c.signatures_at-signatures.result c.cells_at-cells.result i c.slot_at.result c.signatures_at-signatures.ensures.place c.cells_at-cells.ensures.place c.slot_at.ensures in
     elim c.match-slot_at.branch [
       | in-Some+in_ok-push w ↦
-          rw (w.slots-is, w.in_ok-push.ensures.items) (present-more (slot_of bytes import) n i c.loop-i.slots.items all w.in-Some.slot below (read ∙ w.in-Some.is) c.loop-i.invariant)
+          rw (w.slots-is, w.in_ok-push.ensures.items)
+          (present-more (slot_of bytes import) n i c.loop-i.slots.items all w.in-Some.slot below (read ∙ w.in-Some.is) c.loop-i.invariant)
       | in_default w ↦
           rw w.slots-is (present-none (slot_of bytes import) n i c.loop-i.slots.items all below (read ∙ w.in_default.is) c.loop-i.invariant)
     ]
@@ -29,4 +30,5 @@ returns c =
     let bytes = c.args.file.now in
     let import = c.args.import.now in
     let n = slot_count import in
-    present-end (slot_of bytes import) n c.loop-i.i c.loop-i.slots.items (c.args.slots.now.items ++ present (slot_of bytes import) 0 n) (omega (arith, c.slot_count-i-end.ensures.count)) c.loop-i.invariant
+    present-end (slot_of bytes import) n c.loop-i.i c.loop-i.slots.items (c.args.slots.now.items ++ present (slot_of bytes import) 0 n)
+    (omega (arith, c.slot_count-i-end.ensures.count)) c.loop-i.invariant

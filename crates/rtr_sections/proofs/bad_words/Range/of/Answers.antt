@@ -21,7 +21,8 @@ loop-import-preserved c =
     let to : array_at bytes (get_or imports i d) + 4 * slot_count (get_or imports i d) ≤ end =
     omega (arith, c.max-end.ensures, c.signatures_at-array.ensures.place, c.slot_count.ensures.count) in
     All-more (IsWithin bytes start end) imports i d c.loop-import-test.true
-    (λ k e below. wider bytes c.loop-import.start c.loop-import.end start end (get_or (take i imports) k e) lower higher (c.loop-import.invariant k e below)) (from, to)
+    (λ k e below. wider bytes c.loop-import.start c.loop-import.end start end (get_or (take i imports) k e) lower higher
+    (c.loop-import.invariant k e below)) (from, to)
 
 pub returns : goal.returns
 returns c =
