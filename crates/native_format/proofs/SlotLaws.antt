@@ -66,9 +66,9 @@ pub front_more : (front : Slots) (r : SlotRef) (others : Option Slots) → with_
 front_more front r None = refl
 front_more front r (Some rs) = ap (λ (l : Slots). Some l) (sym (append_assoc front (r ∷ []) rs))
 
-front_one : (r : SlotRef) (others : Option Slots) → with_front (r ∷ []) others ≡ option_map (λ rs. r ∷ rs) others
-front_one r None = refl
-front_one r (Some rs) = refl
+pub front_none : (others : Option Slots) → with_front [] others ≡ others
+front_none None = refl
+front_none (Some rs) = refl
 
 -- ---- what is spelled is read
 
@@ -219,15 +219,13 @@ same_two {a} {b} all some behind m n p q e f = rw (e, f, p, q) refl
 
 -- ---- the loop of the reader
 
-pub starts : (bytes : List ℕ) (at after : ℕ) (slot : SlotRef) (list : Slots) → list ≡ slot ∷ [] → ReadsSlot bytes (slots_of (numbers_from bytes (2 * at))) (2 * at) slot after
-    → with_front list (slots_behind slot (numbers_from bytes after)) ≡ list_at bytes at
-starts bytes at after slot list is h = rw is (front_one slot (slots_behind slot (numbers_from bytes after)) ∙ sym h.list_is ∙ list_from_nibble bytes at)
+pub starts : (bytes : List ℕ) (at : ℕ) (front : Slots) (left : Option Slots) → front ≡ [] → left ≡ list_at bytes at
+    → with_front front left ≡ list_at bytes at
+starts bytes at front left none is = rw none (front_none left ∙ is)
 
-pub more : (front list : Slots) (bytes : List ℕ) (place after : ℕ) (last slot : SlotRef) (all : Option Slots) → list ≡ front ++ slot ∷ []
-    → ReadsSlot bytes (slots_behind last (numbers_from bytes place)) place slot after → with_front front (slots_behind last (numbers_from bytes place)) ≡ all
-    → with_front list (slots_behind slot (numbers_from bytes after)) ≡ all
-more front list bytes place after last slot all is h e =
-    rw is (sym (front_more front slot (slots_behind slot (numbers_from bytes after))) ∙ ap (with_front front) (sym h.list_is) ∙ e)
+pub more : (front list : Slots) (slot : SlotRef) (old new all : Option Slots) → list ≡ front ++ slot ∷ []
+    → old ≡ option_map (λ slots. slot ∷ slots) new → with_front front old ≡ all → with_front list new ≡ all
+more front list slot old new all is first e = rw is (sym (front_more front slot new) ∙ ap (with_front front) (sym first) ∙ e)
 
 pub refused : (front : Slots) (others all : Option Slots) → others ≡ None → with_front front others ≡ all → all ≡ None
 refused front others all none e = sym e ∙ ap (with_front front) none

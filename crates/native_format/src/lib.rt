@@ -16,9 +16,9 @@ mod uint;
 
 pub use laws::{lengths_decide_places, written_is_read};
 pub use nibble_length::nibbles_len;
-pub use nibble_reader::read_nibbles;
+pub use nibble_reader::{SlotReader, read_nibbles};
 pub use nibble_writer::{fewest_groups, write_nibbles};
-pub use nibbles::{ListRefusal, SlotRef};
+pub use nibbles::{ListRefusal, MalformedList, SlotRef};
 pub use sparse::Element;
 pub use sparse_length::SparseLength;
 pub use sparse_reader::SparseArray;

@@ -1,13 +1,14 @@
-//! The reader of nibble lists.
+//! The readers of nibble lists: slot by slot, and a whole list.
 
-ghost use Rattle.std.specs.Prelude.{◌≡◌, ◌≤◌, ◌<◌, ◌^◌, ◌*◌, List, Some, slice_index, drop, length, IfOk, MatchOption};
+ghost use Rattle.std.specs.Prelude.{◌≡◌, ◌≤◌, ◌<◌, ◌^◌, ◌*◌, ◌-◌, List, Some, slice_index, drop, length, IfOk, MatchOption};
 ghost use Rattle.std.specs.List.{AllByRecursion};
 ghost use Rattle.native_format.specs.declared.nibbles.SlotRef.{SlotRef as Slot};
 ghost use Rattle.native_format.specs.Nibbles.{BeginsWithList, FitsWords, GivesList, list_at, nibbles, slots_behind, slots_of};
-ghost use Rattle.native_format.specs.NibbleSteps.{IsLost, ReadsFirst, ReadsNext, ReadsNumber, numbers_from};
+ghost use Rattle.native_format.specs.NibbleSteps.{GivesSlot, IsLost, ReadsNext, ReadsNumber, Unread, numbers_from, slots_from};
 
-use crate::nibbles::{ListRefusal, Next, SlotRef};
+use crate::nibbles::{ListRefusal, MalformedList, Next, SlotRef};
 use std::alloc::Global;
+use std::marker::Model;
 
 fn nibble_at(bytes: &[u8], at: usize) -> u8
     requires small { length bytes.now ≤ 2 ^ 31 }
@@ -40,15 +41,17 @@ fn number_at(bytes: &[u8], start: usize) -> Option<(u32, usize)>
     None
 }
 
-fn first_slot(bytes: &[u8], start: usize) -> Option<(SlotRef, usize)>
+/// The first slot of a list that begins at a nibble.
+fn first_slot(bytes: &[u8], start: usize) -> Option<Next>
     requires { length bytes.now ≤ 2 ^ 31 }
-    ensures { ReadsFirst bytes.now (slots_of (numbers_from bytes.now start)) start result }
+    ensures { ReadsNext bytes.now (slots_of (numbers_from bytes.now start)) start result }
 {
     let (section, at) = number_at(bytes, start)?;
     let (slot, at) = number_at(bytes, at)?;
-    Some((SlotRef { section, slot }, at))
+    Some(Next::Slot(SlotRef { section, slot }, at))
 }
 
+/// What follows a slot of a list, from a nibble on.
 fn next_slot(bytes: &[u8], start: usize, last: SlotRef) -> Option<Next>
     requires { length bytes.now ≤ 2 ^ 31 }
     ensures { ReadsNext bytes.now (slots_behind last (numbers_from bytes.now start)) start result }
@@ -68,27 +71,68 @@ fn next_slot(bytes: &[u8], start: usize, last: SlotRef) -> Option<Next>
     Some(Next::Slot(SlotRef { section, slot }, at))
 }
 
+/// The slots of a list, one by one. It takes no memory. Contracts see the list that is left, and how many nibbles are.
+#[derive(Debug, Drop)]
+pub struct SlotReader<'a> {
+    bytes: &'a [u8],
+    /// The number of the nibble from which the next slot is read.
+    place: usize,
+    /// The slot that was read last.
+    last: Option<SlotRef>,
+}
+
+impl<'a> Model for SlotReader<'a> {
+    ghost Value = { Unread };
+
+    ghost view = { λ r. record { list = slots_from r.last (numbers_from r.bytes.now r.place); nibbles = 2 * length r.bytes.now - r.place } };
+
+    ghost invariant = { λ r. length r.bytes.now ≤ 2 ^ 31 };
+}
+
+impl<'a> SlotReader<'a> {
+    /// Reads the list whose nibbles begin at a file offset.
+    pub fn new(bytes: &'a [u8], at: u32) -> SlotReader<'a>
+        requires { length bytes.now ≤ 2 ^ 31 }
+        ensures { result.list ≡ list_at bytes.now at }
+    {
+        SlotReader {
+            bytes,
+            place: 2 * at as usize,
+            last: None,
+        }
+    }
+
+    /// The next slot, `None` at the list's end. Numbers with leading zero groups are read too.
+    /// `Err` where the stream is cut, or a number or a sum passes 32 bits. Both leave the reader as it was.
+    pub fn next_slot(&mut self) -> Result<Option<SlotRef>, MalformedList>
+        ensures { GivesSlot result self.old self.new }
+    {
+        let next = match self.last {
+            Some(last) => next_slot(self.bytes, self.place, last),
+            None => first_slot(self.bytes, self.place),
+        };
+        match next {
+            Some(Next::Slot(slot, after)) => {
+                self.last = Some(slot);
+                self.place = after;
+                Ok(Some(slot))
+            }
+            Some(Next::End) => Ok(None),
+            None => Err(MalformedList),
+        }
+    }
+}
+
 fn list_from(alloc: Global, bytes: &[u8], at: u32) -> Result<Vec<SlotRef>, ListRefusal>
     requires { length bytes.now ≤ 2 ^ 31 }
     ensures { GivesList result (list_at bytes.now at) }
 {
-    let Some((first, mut place)) = first_slot(bytes, 2 * at as usize) else {
-        return Err(ListRefusal::Malformed);
-    };
+    let mut unread = SlotReader::new(bytes, at);
     let mut list = Vec::new(alloc);
-    list.push(first)?;
-    let mut last = first;
-    'slots: loop {
-        match next_slot(bytes, place, last) {
-            None => return Err(ListRefusal::Malformed),
-            Some(Next::End) => return Ok(list),
-            Some(Next::Slot(slot, after)) => {
-                list.push(slot)?;
-                last = slot;
-                place = after;
-            }
-        }
+    while let Some(slot) = unread.next_slot()? {
+        list.push(slot)?;
     }
+    Ok(list)
 }
 
 /// The list of slots whose nibbles begin at a place. Numbers with leading zero groups are read too.
@@ -102,4 +146,31 @@ pub fn read_nibbles(alloc: Global, bytes: &[u8], at: u32) -> Result<Vec<SlotRef>
     ensures exact { GivesList result (list_at bytes.now at) }
 {
     list_from(alloc, bytes, at)
+}
+
+#[cfg(test)]
+mod tests {
+    use super::*;
+
+    /// Slots 2 and 5 of section 1, and a list that is cut after its first slot.
+    #[test]
+    fn slots_one_by_one(rt: HostRuntime) {
+        let mut list = SlotReader::new(&[9, 0x21, 0x03, 0], 1);
+        let first = SlotRef {
+            section: 1,
+            slot: 2,
+        };
+        assert_eq!(rt; list.next_slot(), Ok(Some(first)));
+        let second = SlotRef {
+            section: 1,
+            slot: 5,
+        };
+        assert_eq!(rt; list.next_slot(), Ok(Some(second)));
+        assert_eq!(rt; list.next_slot(), Ok(None));
+        assert_eq!(rt; list.next_slot(), Ok(None));
+        let mut cut = SlotReader::new(&[0x21], 0);
+        assert_eq!(rt; cut.next_slot(), Ok(Some(first)));
+        assert_eq!(rt; cut.next_slot(), Err(MalformedList));
+        assert_eq!(rt; cut.next_slot(), Err(MalformedList));
+    }
 }

@@ -26,6 +26,19 @@ pub enum ListRefusal {
     NoMemory,
 }
 
+/// The stream of a list is cut, or a number or a sum in it passes 32 bits.
+#[derive(Clone, Copy, Debug, PartialEq, Eq, Error)]
+#[error("malformed list of slots")]
+pub struct MalformedList;
+
+impl From<MalformedList> for ListRefusal {
+    ghost from_gives = { λ _ e. e ≡ refusals.Malformed };
+
+    fn from(_e: MalformedList) -> ListRefusal {
+        ListRefusal::Malformed
+    }
+}
+
 impl<T: Drop> From<AllocFailed<T>> for ListRefusal {
     ghost from_gives = { λ _ e. e ≡ refusals.NoMemory };
 
@@ -34,10 +47,10 @@ impl<T: Drop> From<AllocFailed<T>> for ListRefusal {
     }
 }
 
-/// What stands in a list behind one of its slots.
+/// What stands next in a list.
 #[derive(Clone, Copy)]
 pub(crate) enum Next {
-    /// Another slot, and the place of the nibble after it.
+    /// A slot, and the place of the nibble after it.
     Slot(SlotRef, usize),
     /// Nothing: the list ends.
     End,

@@ -13,6 +13,11 @@ use std::marker::Model;
 /// The weights of the bits of an element's number in its block, in the order in which they are asked for.
 const WEIGHTS: [u32; 4] = [8, 4, 2, 1];
 
+/// The check that an array's header and index are whole, as `dump` prints it.
+const HEADER_CHECK: u16 = 63;
+/// The check that no path of an array is cut.
+const PATH_CHECK: u16 = 64;
+
 /// Where the node at a place leads that is asked for the bit of a weight.
 #[tactic(auto, unfolding(crate::specs::Sparse::step_at))]
 fn step(bytes: &[u8], low: u32, weight: u32, at: u32) -> Result<Step, Fault>
@@ -21,10 +26,10 @@ fn step(bytes: &[u8], low: u32, weight: u32, at: u32) -> Result<Step, Fault>
     ensures { result ≡ step_at bytes.now low weight at }
 {
     let broken = Fault {
-        check: 64,
+        check: PATH_CHECK,
         place: at,
     };
-    let Some((node, behind)) = read_uint(bytes, at) else {
+    let Some((node, next)) = read_uint(bytes, at) else {
         return Err(broken);
     };
     let set = low / weight % 2 == 1;
@@ -36,10 +41,10 @@ fn step(bytes: &[u8], low: u32, weight: u32, at: u32) -> Result<Step, Fault>
         return Ok(Step::Child(child as u32));
     }
     if !set && node % 2 == 1 {
-        return Ok(Step::Child(behind));
+        return Ok(Step::Child(next));
     }
     if node % 4 == 0 && node / 4 == low {
-        return Ok(Step::Content(behind));
+        return Ok(Step::Content(next));
     }
     Ok(Step::Absent)
 }
@@ -102,7 +107,7 @@ impl<'a> Model for SparseArray<'a> {
 }
 
 impl<'a> SparseArray<'a> {
-    /// The array whose header stands at a place, which may be behind the end. Check 63 at that place exactly
+    /// The array whose header is at a place, which may be after the end. Check 63 at that place exactly
     /// where the header or its index is cut, or the size of an entry is 3.
     pub fn read(bytes: &'a [u8], at: u32) -> Result<SparseArray<'a>, Fault>
         requires { length bytes.now ≤ 2 ^ 31 }
@@ -111,7 +116,7 @@ impl<'a> SparseArray<'a> {
         ensures place { IfErr result (λ fault. fault ≡ header_fault at) }
     {
         let fault = Fault {
-            check: 63,
+            check: HEADER_CHECK,
             place: at,
         };
         let Some((header, index_at)) = read_uint(bytes, at) else {
@@ -141,7 +146,7 @@ impl<'a> SparseArray<'a> {
 
     /// The place of an element's content. `None` where the element is absent, or its index is at or above the
     /// count. Check 64 exactly where a node on its path, or its entry of the index, is cut or names a place
-    /// behind the end, with that node's or entry's place. It takes one path, and no memory.
+    /// after the end, with that node's or entry's place. It takes one path, and no memory.
     #[tactic(auto, unfolding(crate::specs::Sparse::element_of))]
     pub fn get(&self, index: u32) -> Result<Option<u32>, Fault>
         ensures { result ≡ element_of self.now index }
@@ -154,7 +159,7 @@ impl<'a> SparseArray<'a> {
         let block = self.index_at as usize + distance as usize;
         if block > self.bytes.len() {
             return Err(Fault {
-                check: 64,
+                check: PATH_CHECK,
                 place: entry,
             });
         }

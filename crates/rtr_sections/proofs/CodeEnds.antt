@@ -12,7 +12,8 @@ end_before-first bytes start =
     let none : nat_lt start (start + 8 * 0) ≡ false = le-ltb _ _ (omega arith) in
     rw none refl
 
-pub end_before-next : (bytes : List ℕ) (start i : ℕ) (function : Function) → function ≡ function_at bytes (start + 8 * i) → end_of function ≡ end_before bytes start (start + 8 * (i + 1))
+pub end_before-next : (bytes : List ℕ) (start i : ℕ) (function : Function) → function ≡ function_at bytes (start + 8 * i)
+    → end_of function ≡ end_before bytes start (start + 8 * (i + 1))
 unfolding end_before
 end_before-next bytes start i function e =
     let some : nat_lt start (start + 8 * (i + 1)) ≡ true = lt-ltb _ _ (omega arith) in

@@ -1,11 +1,16 @@
 pub mod Placed
 pub mod NativeLemmas
 pub mod Numbered
+pub mod Listed
+pub mod ImportsListed
+pub mod EntryHeads
 pub mod CodeEnds
 pub mod SlotsRead
 pub mod BadWords
 pub mod EntriesRead
 pub mod AllChecks
+pub mod SectionChecks
+pub mod OwnChecks
 pub mod Types
 pub mod Stands
 pub mod RecordsBack
@@ -21,6 +26,7 @@ pub mod Back
 pub mod Lengths
 pub mod Carried
 pub mod Spellable
+pub mod ImageRead
 pub mod PutLemmas
 pub mod PlanLemmas
 pub mod Unread

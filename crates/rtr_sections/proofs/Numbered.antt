@@ -18,12 +18,14 @@ first_bad-end f n i h =
     rw none refl
 
 -- one more record was read, or there is none of this number: with what is left they are still all
-pub present-more : {X : Type 0} (f : ℕ → Option X) (n i : ℕ) (front all : List X) (x : X) → i < n → f i ≡ Some x → front ++ present f i (n - i) ≡ all → (front ++ x ∷ []) ++ present f (i + 1) (n - (i + 1)) ≡ all
+pub present-more : {X : Type 0} (f : ℕ → Option X) (n i : ℕ) (front all : List X) (x : X) → i < n → f i ≡ Some x
+    → front ++ present f i (n - i) ≡ all → (front ++ x ∷ []) ++ present f (i + 1) (n - (i + 1)) ≡ all
 present-more f n i front all x h e told =
     let left : n - i ≡ suc (n - (i + 1)) = omega arith in
     rw append_assoc (rw (left, e) at told)
 
-pub present-none : {X : Type 0} (f : ℕ → Option X) (n i : ℕ) (front all : List X) → i < n → f i ≡ None → front ++ present f i (n - i) ≡ all → front ++ present f (i + 1) (n - (i + 1)) ≡ all
+pub present-none : {X : Type 0} (f : ℕ → Option X) (n i : ℕ) (front all : List X) → i < n → f i ≡ None
+    → front ++ present f i (n - i) ≡ all → front ++ present f (i + 1) (n - (i + 1)) ≡ all
 present-none f n i front all h e told =
     let left : n - i ≡ suc (n - (i + 1)) = omega arith in
     rw (left, e) at told

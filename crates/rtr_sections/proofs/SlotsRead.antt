@@ -10,34 +10,36 @@ use Rattle.rtr_sections.specs.declared.slots.Slot.{Slot}
 use Rattle.rtr_sections.specs.Imports.{all_slots, array_at, cells_at, bad_word, first_bad_of, first_bad_word, slot_at, slot_of, slots_in}
 
 -- what was read at two places that are the slot's
-pub slot_read : (bytes : List ℕ) (import : ImportSection) (array cells i : ℕ) (answer : Option Slot) → array ≡ array_at bytes import → cells ≡ cells_at bytes import → answer ≡ slot_at bytes (array + 4 * i) (cells + 8 * i) → slot_of bytes import i ≡ answer
+pub slot_read : (bytes : List ℕ) (import : ImportSection) (array cells i : ℕ) (answer : Option Slot) → array ≡ array_at bytes import
+    → cells ≡ cells_at bytes import → answer ≡ slot_at bytes (array + 4 * i) (cells + 8 * i) → slot_of bytes import i ≡ answer
 slot_read bytes import array cells i answer a b e =
-    sym (e ∙ ap (λ (t : ℕ). slot_at bytes (t + 4 * i) (cells + 8 * i)) a ∙ ap (λ (t : ℕ). slot_at bytes (array_at bytes import + 4 * i) (t + 8 * i)) b)
-
-pub word_bad : (bytes : List ℕ) (import : ImportSection) (i : ℕ) → slot_of bytes import i ≡ None → bad_word bytes import i ≡ Some (array_at bytes import + 4 * i)
-word_bad bytes import i e = rw e refl
-
-pub word_good : (bytes : List ℕ) (import : ImportSection) (i : ℕ) (slot : Slot) → slot_of bytes import i ≡ Some slot → bad_word bytes import i ≡ None
-word_good bytes import i slot e = rw e refl
+    sym (e ∙ ap (λ (t : ℕ). slot_at bytes (t + 4 * i) (cells + 8 * i)) a
+    ∙ ap (λ (t : ℕ). slot_at bytes (array_at bytes import + 4 * i) (t + 8 * i)) b)
 
 -- ---- one step over the import records, of which i are behind
 
-pub first_bad_of-step : (bytes : List ℕ) (imports : List ImportSection) (i : ℕ) (d : ImportSection) → i < length imports → first_bad_word bytes (get_or imports i d) ≡ None → first_bad_of bytes (drop (i + 1) imports) ≡ first_bad_of bytes (drop i imports)
+pub first_bad_of-step : (bytes : List ℕ) (imports : List ImportSection) (i : ℕ) (d : ImportSection) → i < length imports
+    → first_bad_word bytes (get_or imports i d) ≡ None → first_bad_of bytes (drop (i + 1) imports) ≡ first_bad_of bytes (drop i imports)
 first_bad_of-step bytes imports i d h e =
     rw (drop_more imports i d h, e) refl
 
-pub first_bad_of-found : (bytes : List ℕ) (imports : List ImportSection) (i : ℕ) (d : ImportSection) (place : ℕ) → i < length imports → first_bad_word bytes (get_or imports i d) ≡ Some place → first_bad_of bytes (drop i imports) ≡ Some place
+pub first_bad_of-found : (bytes : List ℕ) (imports : List ImportSection) (i : ℕ) (d : ImportSection) (place : ℕ) → i < length imports
+    → first_bad_word bytes (get_or imports i d) ≡ Some place → first_bad_of bytes (drop i imports) ≡ Some place
 first_bad_of-found bytes imports i d place h e =
     rw (drop_more imports i d h, e) refl
 
-pub first_bad_of-end : (bytes : List ℕ) (imports : List ImportSection) (i : ℕ) → length imports ≤ i → first_bad_of bytes (drop i imports) ≡ None
+pub first_bad_of-end : (bytes : List ℕ) (imports : List ImportSection) (i : ℕ) → length imports ≤ i
+    → first_bad_of bytes (drop i imports) ≡ None
 first_bad_of-end bytes imports i h = rw (drop_all i imports h) refl
 
-pub all_slots-more : (bytes : List ℕ) (imports : List ImportSection) (i : ℕ) (d : ImportSection) (front now all : List Slot) → i < length imports → now ≡ front ++ slots_in bytes (get_or imports i d) → front ++ all_slots bytes (drop i imports) ≡ all → now ++ all_slots bytes (drop (i + 1) imports) ≡ all
+pub all_slots-more : (bytes : List ℕ) (imports : List ImportSection) (i : ℕ) (d : ImportSection) (front now all : List Slot)
+    → i < length imports → now ≡ front ++ slots_in bytes (get_or imports i d) → front ++ all_slots bytes (drop i imports) ≡ all
+    → now ++ all_slots bytes (drop (i + 1) imports) ≡ all
 all_slots-more bytes imports i d front now all h e told =
     rw (e, append_assoc) (rw (drop_more imports i d h) at told)
 
-pub all_slots-end : (bytes : List ℕ) (imports : List ImportSection) (i : ℕ) (front all : List Slot) → length imports ≤ i → front ++ all_slots bytes (drop i imports) ≡ all → front ≡ all
+pub all_slots-end : (bytes : List ℕ) (imports : List ImportSection) (i : ℕ) (front all : List Slot) → length imports ≤ i
+    → front ++ all_slots bytes (drop i imports) ≡ all → front ≡ all
 all_slots-end bytes imports i front all h told =
     rw (drop_all i imports h, append-nil) at told
 
@@ -46,7 +48,10 @@ some_of None f e go = absurd (let x : ⊥ = cc in x)
 some_of (Some place) f e go = go place refl
 
 -- the refusal of a record's slots is that of all, where those before are good
-pub refused_of : (bytes : List ℕ) (imports : List ImportSection) (i : ℕ) (d : ImportSection) (e : ReadRefusal) → i < length imports → RefusedBy (fault_or 61 (first_bad_word bytes (get_or imports i d)) None) e → RefusedBy (fault_or 61 (first_bad_of bytes (drop i imports)) None) e
+pub refused_of : (bytes : List ℕ) (imports : List ImportSection) (i : ℕ) (d : ImportSection) (e : ReadRefusal) → i < length imports
+    → RefusedBy (fault_or 61 (first_bad_word bytes (get_or imports i d)) None) e
+    → RefusedBy (fault_or 61 (first_bad_of bytes (drop i imports)) None) e
 refused_of bytes imports i d refusals.NoMemory h told = tt
 refused_of bytes imports i d (refusals.Malformed f) h told =
-    some_of (first_bad_word bytes (get_or imports i d)) f told (λ place e. rw (first_bad_of-found bytes imports i d place h e) (rw e at told))
+    some_of (first_bad_word bytes (get_or imports i d)) f told
+    (λ place e. rw (first_bad_of-found bytes imports i d place h e) (rw e at told))

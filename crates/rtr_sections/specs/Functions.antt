@@ -33,7 +33,8 @@ end_before bytes start at = if nat_lt start at then end_of (function_at bytes (a
 -- its code is whole instructions of 4 bytes in a section, behind the code of the entry before
 abbrev pub is_function : List ℕ → ℕ → Function → Bool
 is_function bytes low function =
-    function.begin % 4 == 0 && function.length % 4 == 0 && is_some (place_of bytes function.begin function.length) && nat_le low function.begin
+    function.begin % 4 == 0 && function.length % 4 == 0
+    && is_some (place_of bytes function.begin function.length) && nat_le low function.begin
 
 -- an entry behind code that ends at an RVA
 unfoldable pub holds_behind : List ℕ → ℕ → ℕ → Bool

@@ -44,16 +44,22 @@ abbrev pub ascends : List ℕ → ℕ → Bool
 ascends bytes at = nat_lt (u32_of bytes (at - 12)) (u32_of bytes at)
 
 -- the range of such a section, where it isn't empty, is in a section of the file
+abbrev pub section_is_placed : List ℕ → RtrSection → Bool
+section_is_placed bytes section = not (is_own_kind section.kind) || section.size == 0 || is_some (place_of bytes section.rva section.size)
+
 abbrev pub range_is_placed : List ℕ → ℕ → Bool
-range_is_placed bytes at =
-    let section = rtr_section_at bytes at in
-    not (is_own_kind section.kind) || section.size == 0 || is_some (place_of bytes section.rva section.size)
+range_is_placed bytes at = section_is_placed bytes (rtr_section_at bytes at)
 
 -- ImportSections has whole records of 20 bytes
+abbrev pub has_whole_imports : RtrSection → Bool
+has_whole_imports section = not (section.kind == 101) || section.size % 20 == 0
+
 abbrev pub imports_are_whole : List ℕ → ℕ → Bool
-imports_are_whole bytes at =
-    let section = rtr_section_at bytes at in
-    not (section.kind == 101) || section.size % 20 == 0
+imports_are_whole bytes at = has_whole_imports (rtr_section_at bytes at)
+
+-- the place of the first section record that fails a test of its place
+abbrev pub first_section : (ℕ → Bool) → List ℕ → Option ℕ
+first_section test bytes = first_record test (records_at bytes) 12 (record_count bytes)
 
 -- what is asked of a file with a native header alone
 abbrev pub if_native : List ℕ → Option ℕ → Option ℕ
@@ -77,16 +83,20 @@ order_checks =
 -- the sections that this compiler writes are in a section of the file
 abbrev pub range_checks : List Check
 range_checks =
-    check 20 (λ bytes. if_native bytes (option_map (λ at. at + 4) (first_record (range_is_placed bytes) (records_at bytes) 12 (record_count bytes))))
+    check 20 (λ bytes. if_native bytes (option_map (λ at. at + 4) (first_section (range_is_placed bytes) bytes)))
     ∷ []
 
 abbrev pub size_checks : List Check
 size_checks =
-    check 21 (λ bytes. if_native bytes (option_map (λ at. at + 8) (first_record (imports_are_whole bytes) (records_at bytes) 12 (record_count bytes))))
+    check 21 (λ bytes. if_native bytes (option_map (λ at. at + 8) (first_section (imports_are_whole bytes) bytes)))
     ∷ []
 
+-- of the section records
+abbrev pub table_checks : List Check
+table_checks = order_checks ++ range_checks ++ size_checks
+
 unfoldable pub header_checks : List Check
-header_checks = place_checks ++ order_checks ++ range_checks ++ size_checks
+header_checks = place_checks ++ table_checks
 
 -- the identifier of this compiler's images, with its zero
 abbrev pub identifier : List ℕ
@@ -95,12 +105,14 @@ identifier = codes "r2r profile 1" ++ 0 ∷ []
 -- the section's bytes are the identifier
 abbrev pub is_identifier : List ℕ → RtrSection → Bool
 is_identifier bytes section =
-    section.kind == 100 && section.size == 14 && option_map_or (λ at. starts_with nat_eq (drop at bytes) identifier) (place_of bytes section.rva 14) false
+    section.kind == 100 && section.size == 14
+    && option_map_or (λ at. starts_with nat_eq (drop at bytes) identifier) (place_of bytes section.rva 14) false
 
 -- an image of this compiler: for A64, of version 5.0, with the identifier
 unfoldable pub is_own : List ℕ → Bool
 is_own bytes =
-    machine_of bytes == 0xAA64 && u16_of bytes (native_at bytes + 4) == 5 && u16_of bytes (native_at bytes + 6) == 0 && list_any (is_identifier bytes) (rtr_sections_of bytes)
+    machine_of bytes == 0xAA64 && u16_of bytes (native_at bytes + 4) == 5 && u16_of bytes (native_at bytes + 6) == 0
+    && list_any (is_identifier bytes) (rtr_sections_of bytes)
 
 -- the header that stands in a file with a native header
 unfoldable pub rtr_header_of : List ℕ → RtrHeader

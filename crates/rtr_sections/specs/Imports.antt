@@ -32,10 +32,11 @@ unfoldable pub imports_in : List ℕ → Span → List ImportSection
 imports_in bytes part = records (import_at bytes) part.start 20 (import_count part)
 
 -- the cells, where they aren't empty, are in a section of the file
+abbrev pub has_placed_cells : List ℕ → ImportSection → Bool
+has_placed_cells bytes import = import.size == 0 || is_some (place_of bytes import.rva import.size)
+
 abbrev pub cells_are_placed : List ℕ → ℕ → Bool
-cells_are_placed bytes at =
-    let import = import_at bytes at in
-    import.size == 0 || is_some (place_of bytes import.rva import.size)
+cells_are_placed bytes at = has_placed_cells bytes (import_at bytes at)
 
 -- the first record whose cells aren't
 unfoldable pub unplaced_cells : List ℕ → Span → Option ℕ
@@ -58,10 +59,12 @@ abbrev pub cells_at : List ℕ → ImportSection → ℕ
 cells_at bytes import = unwrap_or (place_of bytes import.rva import.size) 0
 
 -- a record as this compiler writes them, whose array is in a section of the file
-abbrev pub has_own_form : List ℕ → ℕ → Bool
-has_own_form bytes at =
-    let import = import_at bytes at in
+abbrev pub is_own_import : List ℕ → ImportSection → Bool
+is_own_import bytes import =
     import.kind == 0 && import.entry_size == 8 && import.size % 8 == 0 && import.auxiliary == 0 && is_some (array_place bytes import)
+
+abbrev pub has_own_form : List ℕ → ℕ → Bool
+has_own_form bytes at = is_own_import bytes (import_at bytes at)
 
 -- the first record of another form
 unfoldable pub foreign_import : List ℕ → Span → Option ℕ

@@ -1,9 +1,11 @@
 pub mod Header
 pub mod Numbered
+pub mod Listed
 pub mod Imports
 pub mod BadWords
 pub mod Functions
 pub mod Entries
+pub mod EntryHeads
 pub mod Image
 pub mod Parts
 pub mod Plan

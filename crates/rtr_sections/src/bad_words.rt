@@ -1,109 +1,123 @@
-//! The bad words of a file, at whose RVAs no fixup begins: found once for all import records, which may share words.
+//! The check of slots: the bad words of a range of the file, at whose RVAs no fixup begins, are found once for all
+//! import records, whose arrays of signatures may share words.
 
-ghost use Rattle.std.specs.Prelude.{None, ◌≡◌, ◌+◌, ◌-◌, ◌≤◌, ◌<◌, ◌^◌, length, IfErr, IfOk, OnOk};
+ghost use Rattle.std.specs.Prelude.{None, ◌≡◌, ◌+◌, ◌-◌, ◌*◌, ◌≤◌, ◌<◌, ℕ, List, All, length, IfErr, IfOk, OnOk};
 ghost use Rattle.rtr_bytes.specs.Checks.{fault_or, RefusedBy};
-ghost use Rattle.pe_image.specs.Headers.{headers_of};
-ghost use Rattle.rtr_sections.specs.Imports.{first_bad_of, first_bad_word};
-ghost use Rattle.rtr_sections.specs.BadWords.{names_fixup, AreFirstBad, IsFirstBad};
+ghost use Rattle.rtr_sections.specs.Imports.{array_at, first_bad_of, first_bad_word, slot_count};
+ghost use Rattle.rtr_sections.specs.BadWords.{AreFirstBad, IsFirstBad, IsWithin, names_fixup};
 
-use crate::imports::ImportSection;
-use crate::slots::{array_at, named_fixup};
-use pe_image::Pe;
+use crate::check::Check;
+use crate::file::File;
+use crate::imports::{ImportSection, SIGNATURE_SIZE};
+use crate::slots::named_fixup;
 use rtr_bytes::{Fault, NoMemory, ReadRefusal};
 use std::alloc::Global;
 
+/// A range of the file that has the arrays of signatures of all import records.
+#[derive(Clone, Copy)]
+struct Range {
+    start: u32,
+    end: u32,
+}
+
+impl Range {
+    /// The least such range.
+    fn of(file: &File<'_>, imports: &[ImportSection]) -> Range
+        ensures { All (IsWithin file.now result.start result.end) imports.now }
+    {
+        let mut start = u32::MAX;
+        let mut end: u32 = 0;
+        for import in imports {
+            let array = import.signatures_at(file);
+            start = start.min(array);
+            end = end.max(array + SIGNATURE_SIZE * import.slot_count());
+        }
+        Range { start, end }
+    }
+}
+
 /// Whether a fixup begins at the RVA that the word at a place says.
-fn names_fixup(pe: &Pe, bytes: &[u8], word: u32) -> bool
-    requires small { length bytes.now ≤ 2 ^ 31 }
-    requires pe { pe.now ≡ headers_of bytes.now }
-    ensures { result ≡ names_fixup bytes.now word }
+fn names_fixup(file: &File<'_>, place: u32) -> bool
+    ensures { result ≡ names_fixup file.now place }
 {
-    named_fixup(pe, bytes, word).is_some()
+    named_fixup(file, place).is_some()
 }
 
-/// The first bad word among a place and those behind it by fours, and `u32::MAX` where there is none. `firsts` has
-/// that of each place which isn't behind the file's end, by how far it is in front of it. All words behind the end are
-/// alike: they are read as 0.
-fn first_from(firsts: &[u32], pe: &Pe, bytes: &[u8], place: u32) -> u32
-    requires small { length bytes.now ≤ 2 ^ 31 }
-    requires pe { pe.now ≡ headers_of bytes.now }
-    requires firsts { AreFirstBad bytes.now firsts.now }
-    requires known { place ≤ length bytes.now → length bytes.now - place < length firsts.now }
-    ensures { IsFirstBad bytes.now place result }
+/// The first bad word among a place and those after it by fours, and `end` where there is none before that. `firsts` has
+/// that of each place from this one to the end, by how far it is before the last one.
+fn first_from(firsts: &[u32], end: u32, place: u32) -> u32
+    requires known { place < end → end - place ≤ length firsts.now }
+    ensures { (bytes : List ℕ) → AreFirstBad bytes end firsts.now → IsFirstBad bytes end place result }
 {
-    let len = bytes.len() as u32;
-    if place <= len {
-        firsts[(len - place) as usize]
-    } else if names_fixup(pe, bytes, place) {
-        u32::MAX
+    if place < end {
+        firsts[(end - 1 - place) as usize]
     } else {
-        place
+        end
     }
 }
 
-/// The same of the place that is next in front of those of which `firsts` has it.
-fn first_at(firsts: &[u32], pe: &Pe, bytes: &[u8], place: u32) -> u32
-    requires small { length bytes.now ≤ 2 ^ 31 }
-    requires pe { pe.now ≡ headers_of bytes.now }
-    requires firsts { AreFirstBad bytes.now firsts.now }
-    requires within { place ≤ length bytes.now }
-    requires known { place + 4 ≤ length bytes.now → length bytes.now - (place + 4) < length firsts.now }
-    ensures { IsFirstBad bytes.now place result }
+/// The same of the place that is next before those of which `firsts` has it.
+fn first_at(firsts: &[u32], end: u32, file: &File<'_>, place: u32) -> u32
+    requires firsts { AreFirstBad file.now end firsts.now }
+    requires within { place < end }
+    requires known { end - place ≡ length firsts.now + 1 }
+    ensures { IsFirstBad file.now end place result }
 {
-    if names_fixup(pe, bytes, place) {
-        first_from(firsts, pe, bytes, place + 4)
-    } else {
+    if !names_fixup(file, place) {
         place
+    } else if end - place <= SIGNATURE_SIZE {
+        end
+    } else {
+        first_from(firsts, end, place + SIGNATURE_SIZE)
     }
 }
 
-/// The first bad word from each place of a file on, in one pass from its end to its start.
-fn first_bad_words(alloc: Global, pe: &Pe, bytes: &[u8]) -> Result<Vec<u32>, NoMemory>
-    requires small { length bytes.now ≤ 2 ^ 31 }
-    requires pe { pe.now ≡ headers_of bytes.now }
-    ensures firsts { IfOk result (λ firsts. AreFirstBad bytes.now firsts.items) }
-    ensures all { IfOk result (λ firsts. length firsts.items ≡ length bytes.now + 1) }
+/// The first bad word from each place of a range on, in one pass from its end to its start.
+fn first_bad_words(alloc: Global, file: &File<'_>, range: Range) -> Result<Vec<u32>, NoMemory>
+    ensures firsts { IfOk result (λ firsts. AreFirstBad file.now range.end firsts.items) }
+    ensures all { IfOk result (λ firsts. length firsts.items ≡ range.end - range.start) }
 {
-    let len = bytes.len() as u32;
+    let end = range.end;
     let mut firsts = Vec::new(alloc);
-    for i in 0..len + 1 {
-        let first = first_at(&firsts, pe, bytes, len - i);
+    for i in 0..end.saturating_sub(range.start) {
+        let first = first_at(&firsts, end, file, end - 1 - i);
         firsts.push(first)?;
     }
     Ok(firsts)
 }
 
 /// The first bad word of an import record's array.
-fn first_in(firsts: &[u32], pe: &Pe, bytes: &[u8], import: &ImportSection) -> Option<u32>
-    requires small { length bytes.now ≤ 2 ^ 31 }
-    requires pe { pe.now ≡ headers_of bytes.now }
-    requires firsts { AreFirstBad bytes.now firsts.now }
-    requires all { length firsts.now ≡ length bytes.now + 1 }
-    ensures { result ≡ first_bad_word bytes.now import.now }
+fn first_in(firsts: &[u32], range: Range, file: &File<'_>, import: &ImportSection) -> Option<u32>
+    requires firsts { AreFirstBad file.now range.end firsts.now }
+    requires all { length firsts.now ≡ range.end - range.start }
+    requires within { IsWithin file.now range.start range.end import.now }
+    ensures { result ≡ first_bad_word file.now import.now }
 {
-    let array = array_at(pe, bytes, import);
-    let end = array + 4 * (import.size / 8);
-    let first = first_from(firsts, pe, bytes, array);
+    let array = import.signatures_at(file);
+    let end = array + SIGNATURE_SIZE * import.slot_count();
+    let first = first_from(firsts, range.end, array);
     if first < end { Some(first) } else { None }
 }
 
-/// Each slot of import records names a fixup. It takes time for each byte of the file and for each record, however
-/// many slots the records have.
+/// Each slot of import records has a fixup. It takes time for each byte of the range that the arrays of signatures
+/// have in the file, and for each record, however many slots the records have.
 pub(crate) fn check_slots(
     alloc: Global,
-    pe: &Pe,
-    bytes: &[u8],
+    file: &File<'_>,
     imports: &[ImportSection],
 ) -> Result<(), ReadRefusal>
-    requires small { length bytes.now ≤ 2 ^ 31 }
-    requires pe { pe.now ≡ headers_of bytes.now }
-    ensures fault { IfErr result (λ e. RefusedBy (fault_or 61 (first_bad_of bytes.now imports.now) None) e) }
-    ensures ok { OnOk result (first_bad_of bytes.now imports.now ≡ None) }
+    ensures fault { IfErr result (λ e. RefusedBy (fault_or 61 (first_bad_of file.now imports.now) None) e) }
+    ensures ok { OnOk result (first_bad_of file.now imports.now ≡ None) }
 {
-    let firsts = first_bad_words(alloc, pe, bytes)?;
+    let range = Range::of(file, imports);
+    let firsts = first_bad_words(alloc, file, range)?;
     for import in imports {
-        if let Some(place) = first_in(&firsts, pe, bytes, import) {
-            return Err(Fault { check: 61, place }.into());
+        if let Some(place) = first_in(&firsts, range, file, import) {
+            return Err(Fault {
+                check: Check::SlotSignature as u16,
+                place,
+            }
+            .into());
         }
     }
     Ok(())

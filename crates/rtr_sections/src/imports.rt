@@ -1,12 +1,13 @@
 //! Import records: sections of cells, and where the signatures of their slots stand.
 
-ghost use Rattle.std.specs.Prelude.{None, ◌≡◌, ◌+◌, ◌≤◌, ◌<◌, ◌^◌, length, slice_index, IfErr, IfOk, OnOk, true, false};
+ghost use Rattle.std.specs.Prelude.{None, ◌≡◌, ◌+◌, ◌*◌, ◌<◌, ◌^◌, length, IfErr, IfOk, IfSome, OnOk, Some};
 ghost use Rattle.rtr_bytes.specs.Checks.{fault_or, RefusedBy};
-ghost use Rattle.pe_image.specs.Headers.{headers_of, place_of};
-ghost use Rattle.rtr_sections.specs.Imports.{cells_are_placed, follows, foreign_import, has_own_form, import_at, imports_in, out_of_order, unplaced_cells};
+ghost use Rattle.rtr_sections.specs.Listed.{first_failing, first_overlap};
+ghost use Rattle.rtr_sections.specs.Imports.{array_at, array_place, cells_at, has_placed_cells, import_at, imports_in, is_own_import, slot_count, unplaced_cells};
 
-use pe_image::Pe;
-use rtr_bytes::{Fault, ReadRefusal, Span, u16_or_zero, u32_or_zero};
+use crate::check::Check;
+use crate::file::File;
+use rtr_bytes::{Fault, ReadRefusal, Span, ensure};
 use std::alloc::Global;
 
 /// One import record: a section of cells.
@@ -31,132 +32,144 @@ pub struct ImportSection {
 /// The bytes of an import record.
 pub(crate) const RECORD_SIZE: u32 = 20;
 
-/// The byte at a place, and 0 behind the end.
-fn byte_or_zero(bytes: &[u8], at: u32) -> u8
-    ensures { result ≡ slice_index bytes.now at }
-{
-    bytes.get(at as usize).copied().unwrap_or(0)
-}
+/// The bytes of a cell.
+pub(crate) const CELL_SIZE: u32 = 8;
+/// The bytes of a slot's signature, which is an RVA.
+pub(crate) const SIGNATURE_SIZE: u32 = 4;
 
 impl ImportSection {
     /// The record at a place.
-    fn read(bytes: &[u8], at: u32) -> ImportSection
-        requires small { length bytes.now ≤ 2 ^ 31 }
+    fn read(file: &File<'_>, at: u32) -> ImportSection
         requires in_reach { at + 20 < 2 ^ 32 }
-        ensures { result ≡ import_at bytes.now at }
+        ensures { result ≡ import_at file.now at }
     {
         ImportSection {
-            rva: u32_or_zero(bytes, at),
-            size: u32_or_zero(bytes, at + 4),
-            flags: u16_or_zero(bytes, at + 8),
-            kind: byte_or_zero(bytes, at + 10),
-            entry_size: byte_or_zero(bytes, at + 11),
-            signatures: u32_or_zero(bytes, at + 12),
-            auxiliary: u32_or_zero(bytes, at + 16),
+            rva: file.u32_at(at),
+            size: file.u32_at(at + 4),
+            flags: file.u16_at(at + 8),
+            kind: file.u8_at(at + 10),
+            entry_size: file.u8_at(at + 11),
+            signatures: file.u32_at(at + 12),
+            auxiliary: file.u32_at(at + 16),
         }
     }
 
-    /// The record at a place, once its cells are in a section of the file.
-    fn checked(pe: &Pe, bytes: &[u8], at: u32) -> Result<ImportSection, Fault>
-        requires small { length bytes.now ≤ 2 ^ 31 }
-        requires pe { pe.now ≡ headers_of bytes.now }
-        requires in_reach { at + 20 < 2 ^ 32 }
-        ensures fault { IfErr result (λ f. (cells_are_placed bytes.now at ≡ false) × (f ≡ record { check = 22; place = at })) }
-        ensures placed { OnOk result (cells_are_placed bytes.now at ≡ true) }
-        ensures import { IfOk result (λ import. import ≡ import_at bytes.now at) }
+    /// How many slots it has: one for each cell of this compiler's size.
+    pub(crate) fn slot_count(&self) -> u32
+        ensures count { result ≡ slot_count self.now }
+        ensures few { result < 2 ^ 29 }
     {
-        let import = ImportSection::read(bytes, at);
-        if import.size != 0 && pe.slice_of_rva(import.rva, import.size).is_none() {
-            return Err(Fault {
-                check: 22,
-                place: at,
-            });
-        }
-        Ok(import)
+        self.size / CELL_SIZE
     }
-}
 
-/// Whether the record at a place has the form of this compiler's, with its array of signatures in a section of
-/// the file.
-fn has_own_form(pe: &Pe, bytes: &[u8], at: u32) -> bool
-    requires small { length bytes.now ≤ 2 ^ 31 }
-    requires pe { pe.now ≡ headers_of bytes.now }
-    requires in_reach { at + 20 < 2 ^ 32 }
-    ensures { result ≡ has_own_form bytes.now at }
-{
-    let import = ImportSection::read(bytes, at);
-    import.kind == 0
-        && import.entry_size == 8
-        && import.size % 8 == 0
-        && import.auxiliary == 0
-        && pe
-            .slice_of_rva(import.signatures, 4 * (import.size / 8))
-            .is_some()
-}
+    /// The RVA after its cells.
+    fn end(&self) -> u64
+        ensures { result ≡ self.now.rva + self.now.size }
+    {
+        u64::from(self.rva) + u64::from(self.size)
+    }
 
-/// Whether the cells of the record at a place stand behind those of the record before.
-fn follows(bytes: &[u8], at: u32) -> bool
-    requires small { length bytes.now ≤ 2 ^ 31 }
-    requires behind { 20 ≤ at }
-    requires in_reach { at + 20 < 2 ^ 32 }
-    ensures { result ≡ follows bytes.now at }
-{
-    let before = at - RECORD_SIZE;
-    let end = u64::from(u32_or_zero(bytes, before)) + u64::from(u32_or_zero(bytes, before + 4));
-    end <= u64::from(u32_or_zero(bytes, at))
+    /// The place of its array of signatures, `None` where that isn't in a section of the file.
+    fn signatures_place(&self, file: &File<'_>) -> Option<u32>
+        ensures place { result ≡ array_place file.now self.now }
+        ensures few { slot_count self.now < 2 ^ 29 }
+        ensures in_reach { IfSome result (λ at. at + 4 * slot_count self.now < 2 ^ 32) }
+    {
+        file.place_of(self.signatures, SIGNATURE_SIZE * self.slot_count())
+    }
+
+    /// The place of its array of signatures. Of no meaning where that isn't in a section of the file.
+    pub(crate) fn signatures_at(&self, file: &File<'_>) -> u32
+        ensures place { result ≡ array_at file.now self.now }
+        ensures in_reach { result + 4 * slot_count self.now < 2 ^ 32 }
+    {
+        match self.signatures_place(file) {
+            Some(place) => place,
+            None => 0,
+        }
+    }
+
+    /// The place of its cells. Of no meaning where they aren't in a section of the file.
+    pub(crate) fn cells_at(&self, file: &File<'_>) -> u32
+        ensures place { result ≡ cells_at file.now self.now }
+        ensures in_reach { result + 8 * slot_count self.now < 2 ^ 32 }
+    {
+        match file.place_of(self.rva, self.size) {
+            Some(place) => place,
+            None => 0,
+        }
+    }
+
+    /// Whether its cells are in a section of the file, where it has some.
+    fn has_placed_cells(&self, file: &File<'_>) -> bool
+        ensures { result ≡ has_placed_cells file.now self.now }
+    {
+        self.size == 0 || file.place_of(self.rva, self.size).is_some()
+    }
+
+    /// Whether it has the form of this compiler's, with its array of signatures in a section of the file.
+    fn has_own_form(&self, file: &File<'_>) -> bool
+        ensures { result ≡ is_own_import file.now self.now }
+    {
+        self.kind == 0
+            && u32::from(self.entry_size) == CELL_SIZE
+            && self.size % CELL_SIZE == 0
+            && self.auxiliary == 0
+            && self.signatures_place(file).is_some()
+    }
 }
 
 /// The import records of a part, once the cells of each are in a section of the file.
 pub(crate) fn read_imports(
     alloc: Global,
-    pe: &Pe,
-    bytes: &[u8],
+    file: &File<'_>,
     part: Span,
 ) -> Result<Vec<ImportSection>, ReadRefusal>
-    requires small { length bytes.now ≤ 2 ^ 31 }
-    requires pe { pe.now ≡ headers_of bytes.now }
     requires in_reach { part.start + part.len < 2 ^ 32 }
-    ensures fault { IfErr result (λ e. RefusedBy (fault_or 22 (unplaced_cells bytes.now part) None) e) }
-    ensures ok { OnOk result (unplaced_cells bytes.now part ≡ None) }
-    ensures imports { IfOk result (λ imports. imports.items ≡ imports_in bytes.now part) }
+    ensures fault { IfErr result (λ e. RefusedBy (fault_or 22 (unplaced_cells file.now part) None) e) }
+    ensures ok { OnOk result (unplaced_cells file.now part ≡ None) }
+    ensures imports { IfOk result (λ imports. imports.items ≡ imports_in file.now part) }
 {
     let mut imports = Vec::new(alloc);
     for i in 0..part.len / RECORD_SIZE {
-        let import = ImportSection::checked(pe, bytes, part.start + RECORD_SIZE * i)?;
+        let place = part.start + RECORD_SIZE * i;
+        let import = ImportSection::read(file, place);
+        ensure(
+            import.has_placed_cells(file),
+            Check::ImportCells as u16,
+            place,
+        )?;
         imports.push(import)?;
     }
     Ok(imports)
 }
 
-/// Each import record of a part has the form of this compiler's.
-pub(crate) fn check_forms(pe: &Pe, bytes: &[u8], part: Span) -> Result<(), Fault>
-    requires small { length bytes.now ≤ 2 ^ 31 }
-    requires pe { pe.now ≡ headers_of bytes.now }
-    requires in_reach { part.start + part.len < 2 ^ 32 }
-    ensures fault { IfErr result (λ f. fault_or 60 (foreign_import bytes.now part) None ≡ Some f) }
-    ensures ok { OnOk result (foreign_import bytes.now part ≡ None) }
+/// Import records, of which the first is at a place, have the form of this compiler's.
+pub(crate) fn check_forms(file: &File<'_>, imports: &[ImportSection], at: u32) -> Result<(), Fault>
+    requires in_reach { at + 20 * length imports.now < 2 ^ 32 }
+    ensures fault { IfErr result (λ f. fault_or 60 (first_failing (is_own_import file.now) at 20 imports.now) None ≡ Some f) }
+    ensures ok { OnOk result (first_failing (is_own_import file.now) at 20 imports.now ≡ None) }
 {
-    for i in 0..part.len / RECORD_SIZE {
-        let place = part.start + RECORD_SIZE * i;
-        if !has_own_form(pe, bytes, place) {
-            return Err(Fault { check: 60, place });
-        }
+    let mut place = at;
+    for import in imports {
+        ensure(import.has_own_form(file), Check::ImportForm as u16, place)?;
+        place += RECORD_SIZE;
     }
     Ok(())
 }
 
-/// The cells of each import record of a part stand behind those of the record before.
-pub(crate) fn check_cells_order(bytes: &[u8], part: Span) -> Result<(), Fault>
-    requires small { length bytes.now ≤ 2 ^ 31 }
-    requires in_reach { part.start + part.len < 2 ^ 32 }
-    ensures fault { IfErr result (λ f. fault_or 66 (out_of_order bytes.now part) None ≡ Some f) }
-    ensures ok { OnOk result (out_of_order bytes.now part ≡ None) }
+/// The cells of import records, of which the first is at a place, are each after those of the record before.
+pub(crate) fn check_cells_order(imports: &[ImportSection], at: u32) -> Result<(), Fault>
+    requires in_reach { at + 20 * length imports.now < 2 ^ 32 }
+    ensures fault { IfErr result (λ f. fault_or 66 (first_overlap (λ i. i.rva) (λ i. i.rva + i.size) 0 at 20 imports.now) None ≡ Some f) }
+    ensures ok { OnOk result (first_overlap (λ i. i.rva) (λ i. i.rva + i.size) 0 at 20 imports.now ≡ None) }
 {
-    for i in 1..part.len / RECORD_SIZE {
-        let place = part.start + RECORD_SIZE * i;
-        if !follows(bytes, place) {
-            return Err(Fault { check: 66, place });
-        }
+    let mut place = at;
+    let mut end = 0;
+    for import in imports {
+        ensure(end <= u64::from(import.rva), Check::CellOrder as u16, place)?;
+        end = import.end();
+        place += RECORD_SIZE;
     }
     Ok(())
 }

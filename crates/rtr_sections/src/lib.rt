@@ -1,13 +1,15 @@
 //! The ReadyToRun part of an image, read and written by records (ReadyToRun File Format).
 //!
-//! [`read_rtr`] tells what stands in a file's bytes: the header, its section records and the import records,
+//! [`read_rtr`] gives what is in a file's bytes: the header, its section records and the import records,
 //! and of an image that this compiler wrote the slots, the functions and the entries too. [`write_rtr`] writes such
 //! records as the part of an image of this compiler, where [`can_write_rtr`] says that it can.
 #![tactic(auto)]
 
 mod bad_words;
+mod check;
 mod entries;
 mod entry_writer;
+mod file;
 mod functions;
 mod header;
 mod image;
@@ -16,6 +18,7 @@ mod laws;
 mod length;
 mod pieces;
 mod plan;
+mod slot_lists;
 mod slots;
 mod written;
 

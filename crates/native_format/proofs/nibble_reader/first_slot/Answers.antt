@@ -10,7 +10,9 @@ returns-in_err-section c = rw c.from_residual.ensures (no_section (numbers_from 
 pub returns-in_err-slot : goal.returns-in_err-slot
 returns-in_err-slot c =
     let first = c.in_ok-section.ensures in
-    rw c.from_residual-in_err-slot.ensures (ap slots_of first.numbers_are ∙ no_slot c.in_ok-section.section (numbers_from c.args.bytes.now c.in_ok-section.at) c.in_err-slot.ensures)
+    rw c.from_residual-in_err-slot.ensures
+    (ap slots_of first.numbers_are
+    ∙ no_slot c.in_ok-section.section (numbers_from c.args.bytes.now c.in_ok-section.at) c.in_err-slot.ensures)
 
 pub returns : goal.returns
 returns c =
@@ -18,5 +20,6 @@ returns c =
     let two = c.in_ok-slot.ensures in
     let behind = numbers_from c.args.bytes.now c.in_ok-slot.at in
     let both = one.numbers_are ∙ ap (λ ns. c.in_ok-section.section ∷ ns) two.numbers_are in
-    reads c.args.bytes.now (slots_of (numbers_from c.args.bytes.now c.args.start)) c.args.start c.in_ok-slot.at (at_slot c.in_ok-section.section c.in_ok-slot.slot) (omega (arith, one.further, two.further)) two.within (one.fits, two.fits)
+    reads c.args.bytes.now (slots_of (numbers_from c.args.bytes.now c.args.start)) c.args.start c.in_ok-slot.at
+    (at_slot c.in_ok-section.section c.in_ok-slot.slot) (omega (arith, one.further, two.further)) two.within (one.fits, two.fits)
     (ap slots_of both ∙ slots_of_two c.in_ok-section.section c.in_ok-slot.slot behind)

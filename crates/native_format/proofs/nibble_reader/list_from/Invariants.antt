@@ -1,15 +1,11 @@
-use Rattle.std.proofs.Common.{◌≡◌, ◌-◌, ◌*◌, ◌≤◌, length}
-use Rattle.native_format.specs.Nibbles.{slots_behind, list_at}
-use Rattle.native_format.specs.NibbleSteps.{numbers_from}
+use Rattle.std.proofs.Common.{◌≡◌}
+use Rattle.native_format.specs.Nibbles.{list_at}
 use Rattle.native_format.proofs.SlotLaws.{with_front}
 use Rattle.native_format.proofs.nibble_reader.list_from.Given as goal
 
--- what was read, and what is read behind it
-abbrev pub invariant-slots : goal.invariant-slots
-invariant-slots l = record {
-  within : l.place ≤ 2 * length l.bytes;
-  list_is : with_front l.list.items (slots_behind l.last (numbers_from l.bytes l.place)) ≡ list_at l.bytes l.at;
-}
+-- what was read, with what is left
+abbrev pub invariant-loop-list : goal.invariant-loop-list
+invariant-loop-list l = with_front l.list.items l.unread.list ≡ list_at l.bytes l.at
 
-abbrev pub decreases-slots : goal.decreases-slots
-decreases-slots l = 2 * length l.bytes - l.place
+abbrev pub decreases-loop-list : goal.decreases-loop-list
+decreases-loop-list l = l.unread.nibbles

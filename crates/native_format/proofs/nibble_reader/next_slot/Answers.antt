@@ -5,12 +5,16 @@ use Rattle.native_format.proofs.SlotLaws.{no_distance, slot_sum_wide, no_section
 use Rattle.native_format.proofs.nibble_reader.next_slot.Goals as goal
 
 pub returns-in_err-distance : goal.returns-in_err-distance
-returns-in_err-distance c = rw c.from_residual.ensures (no_distance c.args.last (numbers_from c.args.bytes.now c.args.start) c.in_err-distance.ensures)
+returns-in_err-distance c =
+    rw c.from_residual.ensures (no_distance c.args.last (numbers_from c.args.bytes.now c.args.start) c.in_err-distance.ensures)
 
 pub returns-in_err-slot : goal.returns-in_err-slot
 returns-in_err-slot c =
     let one = c.in_ok-distance.ensures in
-    rw c.from_residual-in_err-slot.ensures (ap (slots_behind c.args.last) one.numbers_are ∙ slot_sum_wide c.args.last c.in_ok-distance.distance (numbers_from c.args.bytes.now c.in_ok-distance.at) (omega arith) (omega (arith, c.in_err-slot.ensures)))
+    rw c.from_residual-in_err-slot.ensures
+    (ap (slots_behind c.args.last) one.numbers_are
+    ∙ slot_sum_wide c.args.last c.in_ok-distance.distance (numbers_from c.args.bytes.now c.in_ok-distance.at) (omega arith)
+    (omega (arith, c.in_err-slot.ensures)))
 
 pub returns-then-distance-gt0 : goal.returns-then-distance-gt0
 returns-then-distance-gt0 c =
@@ -20,7 +24,8 @@ returns-then-distance-gt0 c =
     let behind = numbers_from c.args.bytes.now c.in_ok-distance.at in
     let list = slots_behind c.args.last (numbers_from c.args.bytes.now c.args.start) in
     let read = ap (slots_behind c.args.last) one.numbers_are ∙ behind_slot c.args.last d behind (omega arith) in
-    reads c.args.bytes.now list c.args.start c.in_ok-distance.at (at_slot c.args.last.section c.in_ok-slot.slot) one.further one.within (omega arith, omega arith) (rw (← sum.1) at read)
+    reads c.args.bytes.now list c.args.start c.in_ok-distance.at (at_slot c.args.last.section c.in_ok-slot.slot) one.further one.within
+    (omega arith, omega arith) (rw (← sum.1) at read)
 
 -- the numbers from the place on: 0, where no slot of the same section follows
 pub returns-in_err-distance-2 : goal.returns-in_err-distance-2
@@ -28,7 +33,9 @@ returns-in_err-distance-2 c =
     let one = c.in_ok-distance.ensures in
     let behind = numbers_from c.args.bytes.now c.in_ok-distance.at in
     let zero_is : c.in_ok-distance.distance ≡ 0 = omega arith in
-    rw c.from_residual-in_err-distance-2.ensures (ap (slots_behind c.args.last) (one.numbers_are ∙ ap (λ d. d ∷ behind) zero_is) ∙ no_section_distance c.args.last behind c.in_err-distance-2.ensures)
+    rw c.from_residual-in_err-distance-2.ensures
+    (ap (slots_behind c.args.last) (one.numbers_are ∙ ap (λ d. d ∷ behind) zero_is)
+    ∙ no_section_distance c.args.last behind c.in_err-distance-2.ensures)
 
 pub returns-then-distance-eq0 : goal.returns-then-distance-eq0
 returns-then-distance-eq0 c =
@@ -45,7 +52,8 @@ returns-in_err-section c =
     let two = c.in_ok-distance-2.ensures in
     let zero_is : c.in_ok-distance.distance ≡ 0 = omega arith in
     let behind = numbers_from c.args.bytes.now c.in_ok-distance-2.at in
-    rw c.from_residual-in_err-section.ensures (ap (slots_behind c.args.last) (same_two _ _ behind 0 c.in_ok-distance-2.distance zero_is refl one.numbers_are two.numbers_are)
+    rw c.from_residual-in_err-section.ensures
+    (ap (slots_behind c.args.last) (same_two _ _ behind 0 c.in_ok-distance-2.distance zero_is refl one.numbers_are two.numbers_are)
     ∙ section_sum_wide c.args.last c.in_ok-distance-2.distance behind (omega arith) (omega (arith, c.in_err-section.ensures)))
 
 pub returns-in_err-slot-2 : goal.returns-in_err-slot-2
@@ -54,7 +62,8 @@ returns-in_err-slot-2 c =
     let two = c.in_ok-distance-2.ensures in
     let zero_is : c.in_ok-distance.distance ≡ 0 = omega arith in
     let behind = numbers_from c.args.bytes.now c.in_ok-distance-2.at in
-    rw c.from_residual-in_err-slot-2.ensures (ap (slots_behind c.args.last) (same_two _ _ behind 0 c.in_ok-distance-2.distance zero_is refl one.numbers_are two.numbers_are)
+    rw c.from_residual-in_err-slot-2.ensures
+    (ap (slots_behind c.args.last) (same_two _ _ behind 0 c.in_ok-distance-2.distance zero_is refl one.numbers_are two.numbers_are)
     ∙ no_first_slot c.args.last c.in_ok-distance-2.distance behind (omega arith) c.in_err-slot-2.ensures)
 
 pub returns : goal.returns
@@ -70,4 +79,5 @@ returns c =
     let list = slots_behind c.args.last (numbers_from c.args.bytes.now c.args.start) in
     let all = same_two _ _ _ 0 d zero_is refl one.numbers_are two.numbers_are ∙ ap (λ ns. 0 ∷ d ∷ ns) three.numbers_are in
     let read = ap (slots_behind c.args.last) all ∙ behind_section c.args.last d slot behind (omega arith) in
-    reads c.args.bytes.now list c.args.start c.in_ok-slot-2.at (at_slot c.in_ok-section.section slot) (omega (arith, one.further, two.further, three.further)) three.within (omega arith, three.fits) (rw (← sum.1) at read)
+    reads c.args.bytes.now list c.args.start c.in_ok-slot-2.at (at_slot c.in_ok-section.section slot)
+    (omega (arith, one.further, two.further, three.further)) three.within (omega arith, three.fits) (rw (← sum.1) at read)

@@ -1,10 +1,10 @@
-use Rattle.std.proofs.Common.{◌≡◌, ◌-◌, length, slice_index, subst, arith}
-use Rattle.rtr_sections.specs.BadWords.{IsFirstBad}
+use Rattle.std.proofs.Common.{arith}
+use Rattle.rtr_sections.proofs.BadWords.{kept, none_left}
 use Rattle.rtr_sections.proofs.bad_words.first_from.Goals as goal
 
-pub returns-then-place-len : goal.returns-then-place-len
-returns-then-place-len c =
-    let len = length c.args.bytes.now in
-    let place = c.args.place in
-    let there : len - (len - place) ≡ place = omega arith in
-    subst (λ p. IsFirstBad c.args.bytes.now p (slice_index c.args.firsts.now (len - place))) there (c.requires.firsts (len - place) (c.requires.known (omega arith)))
+pub returns-then-place-end : goal.returns-then-place-end
+returns-then-place-end c =
+    λ bytes all. kept bytes c.args.firsts.now c.args.end c.args.place (omega arith) (c.requires.known (omega arith)) all
+
+pub returns-else-place-end : goal.returns-else-place-end
+returns-else-place-end c = λ bytes all. none_left bytes c.args.end c.args.place (omega arith)

@@ -4,8 +4,10 @@ use Rattle.rtr_sections.proofs.bad_words.first_in.Goals as goal
 
 pub returns-then-first-end : goal.returns-then-first-end
 returns-then-first-end c =
-    sym (found_in c.args.bytes.now c.args.import.now c.array_at-array.result c.first_from-first.result c.array_at-array.ensures.place c.first_from-first.ensures (omega arith) c.array_at-array.ensures.in_reach)
+    let first = c.first_from-first.ensures c.args.file.now c.requires.firsts in
+    sym (found_in c.args.file.now c.args.import.now c.args.range.start c.args.range.end c.signatures_at-array.result c.first_from-first.result c.signatures_at-array.ensures.place c.requires.within first (omega (arith, c.slot_count.ensures.count)))
 
 pub returns-else-first-end : goal.returns-else-first-end
 returns-else-first-end c =
-    sym (none_in c.args.bytes.now c.args.import.now c.array_at-array.result c.first_from-first.result c.array_at-array.ensures.place c.first_from-first.ensures (omega arith))
+    let first = c.first_from-first.ensures c.args.file.now c.requires.firsts in
+    sym (none_in c.args.file.now c.args.import.now c.args.range.start c.args.range.end c.signatures_at-array.result c.first_from-first.result c.signatures_at-array.ensures.place c.requires.within first (omega (arith, c.slot_count.ensures.count)))

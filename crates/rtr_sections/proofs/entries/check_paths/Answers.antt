@@ -8,7 +8,8 @@ use Rattle.rtr_sections.proofs.entries.check_paths.Goals as goal
 pub overflow_add-result : goal.overflow_add-result
 overflow_add-result c =
     let a = c.args.array.now in
-    let there = cut_within a c.loop-index.index c.in-Err.cut (array_at_whole a.bytes 0 a c.requires.whole) (sym c.get.ensures ∙ c.in-Err.is) in
+    let there =
+    cut_within a c.loop-index.index c.in-Err.cut (array_at_whole a.bytes 0 a c.requires.whole) (sym c.get.ensures ∙ c.in-Err.is) in
     omega arith
 
 pub returns-in-Err-clause-fault : goal.returns-in-Err-clause-fault

@@ -6,4 +6,5 @@ use Rattle.rtr_sections.proofs.entries.check_paths.Given as goal
 -- the first index that is cut is among those that are left
 abbrev pub invariant-loop-index : goal.invariant-loop-index
 invariant-loop-index l =
-    first_bad (cut_place l.part.start l.array) l.index (l.array.count - l.index) ≡ first_bad (cut_place l.part.start l.array) 0 l.array.count
+    first_bad (cut_place l.part.start l.array) l.index (l.array.count - l.index) ≡ first_bad
+    (cut_place l.part.start l.array) 0 l.array.count

@@ -10,8 +10,9 @@ invariant-loop-i l =
     let left = function_count l.part - l.i in
     record {
       -- what was read and what is left are all of the entries
-      read : l.functions.items ++ records (function_at l.bytes) at 8 left ≡ records (function_at l.bytes) start 8 (function_count l.part);
+      read : l.functions.items ++ records (function_at l.file) at 8 left ≡ records (function_at l.file) start 8 (function_count l.part);
       -- the first bad one is among those that are left
-      checked : first_record (function_holds l.bytes start) at 8 left ≡ first_record (function_holds l.bytes start) start 8 (function_count l.part);
-      behind : l.low ≡ end_before l.bytes start at;
+      checked : first_record (function_holds l.file start) at 8 left ≡ first_record (function_holds l.file start) start 8
+          (function_count l.part);
+      behind : l.low ≡ end_before l.file start at;
     }

@@ -1,9 +1,11 @@
-use Rattle.std.proofs.Common.{◌≡◌, ◌+◌, ◌*◌, ◌-◌}
-use Rattle.rtr_bytes.specs.Checks.{first_record}
-use Rattle.rtr_sections.specs.Header.{ascends, records_at, record_count}
+use Rattle.std.proofs.Common.{◌≡◌, ◌+◌, ◌*◌, ◌≤◌, ◌<◌, ◌^◌, drop, length}
+use Rattle.rtr_sections.specs.Listed.{first_overlap}
 use Rattle.rtr_sections.proofs.header.check_order.Given as goal
 
--- the first record out of order is among those that are left
-abbrev pub invariant-loop-i : goal.invariant-loop-i
-invariant-loop-i l =
-    first_record (ascends l.bytes) (records_at l.bytes + 12 * l.i) 12 (record_count l.bytes - l.i) ≡ first_record (ascends l.bytes) (records_at l.bytes + 12) 12 (record_count l.bytes - 1)
+abbrev pub invariant-loop-section : goal.invariant-loop-section
+invariant-loop-section l = record {
+  -- the first that is out of order is among those that are left
+  checked : first_overlap (λ s. s.kind) (λ s. s.kind + 1) l.least l.place 12 (drop l.section-index l.sections) ≡ first_overlap
+      (λ s. s.kind) (λ s. s.kind + 1) 0 l.at 12 l.sections;
+  here : l.place ≡ l.at + 12 * l.section-index;
+}

@@ -1,9 +1,12 @@
-use Rattle.std.proofs.Common.{◌≡◌, ◌+◌, ◌*◌, ◌-◌}
-use Rattle.rtr_bytes.specs.Checks.{first_record}
-use Rattle.rtr_sections.specs.Header.{records_at, record_count, imports_are_whole}
+use Rattle.std.proofs.Common.{◌≡◌, ◌+◌, ◌*◌, ◌≤◌, drop, length}
+use Rattle.rtr_sections.specs.Listed.{first_failing}
+use Rattle.rtr_sections.specs.Header.{has_whole_imports}
 use Rattle.rtr_sections.proofs.header.check_sizes.Given as goal
 
--- the first bad record is among those that are left
-abbrev pub invariant-loop-i : goal.invariant-loop-i
-invariant-loop-i l =
-    first_record (imports_are_whole l.bytes) (records_at l.bytes + 12 * l.i) 12 (record_count l.bytes - l.i) ≡ first_record (imports_are_whole l.bytes) (records_at l.bytes) 12 (record_count l.bytes)
+abbrev pub invariant-loop-section : goal.invariant-loop-section
+invariant-loop-section l = record {
+  -- the first that fails is among those that are left
+  checked : first_failing has_whole_imports l.place 12
+      (drop l.section-index l.sections) ≡ first_failing has_whole_imports l.at 12 l.sections;
+  here : l.place ≡ l.at + 12 * l.section-index;
+}

@@ -1,47 +1,39 @@
-use Rattle.std.proofs.Common.{◌≡◌, ◌∙◌, Option, None, false, IfErr, OnOk, sym, ap, subst}
-use Rattle.std.proofs.lemmas.Result.{err_from_is_err_and, IfOk-weaker}
-use Rattle.rtr_bytes.specs.declared.fault.Fault.{Fault}
-use Rattle.rtr_bytes.specs.declared.fault.Span.{Span}
-use Rattle.rtr_bytes.specs.Checks.{fault_or, RefusedBy}
-use Rattle.rtr_sections.specs.Header.{is_own, part_of}
-use Rattle.rtr_sections.specs.Imports.{unplaced_cells}
-use Rattle.rtr_sections.proofs.AllChecks.{refused_header, refused_imports, after_imports, none_foreign}
-use Rattle.rtr_sections.proofs.Spellable.{own_spellable}
+use Rattle.std.proofs.Common.{◌≡◌, ℕ, List, Result, None, IfErr, IfOk, OnOk, subst}
+use Rattle.std.proofs.lemmas.Result.{IfOk-weaker}
+use Rattle.rtr_bytes.specs.declared.fault.ReadRefusal.{ReadRefusal}
+use Rattle.rtr_bytes.specs.Checks.{first_fault, RefusedBy}
+use Rattle.rtr_sections.specs.declared.image.Image.{Image}
+use Rattle.rtr_sections.specs.Image.{image_of, rtr_checks}
+use Rattle.rtr_sections.proofs.ImageRead.{image_own, image_spellable}
 use Rattle.rtr_sections.proofs.image.read_rtr.Goals as goal
 
-pub returns-in_err-header-clause-malformed : goal.returns-in_err-header-clause-malformed
-returns-in_err-header-clause-malformed c =
-    let p = err_from_is_err_and c.from_residual.result c.from_residual.ensures.1 in
-    rw (p.1, p.2) (refused_header c.args.method_rows c.args.bytes.now c.in_err-header.field-0.0 c.in_err-header.ensures.malformed)
+pub read_image-requires : goal.read_image-requires
+read_image-requires c = record { native = rw c.new-file.ensures c.requires.native }
 
-pub returns-in_err-imports-clause-malformed : goal.returns-in_err-imports-clause-malformed
-returns-in_err-imports-clause-malformed c =
-    let p = err_from_is_err_and c.from_residual-in_err-imports.result c.from_residual-in_err-imports.ensures.1 in
-    let bytes = c.args.bytes.now in
-    let P : Span → Type 0 = λ s. RefusedBy (fault_or 22 (unplaced_cells bytes s) None) c.in_err-imports.field-0.0 in
-    rw (p.1, p.2) (refused_imports c.args.method_rows bytes c.in_err-imports.field-0.0 c.requires.native c.in_ok-header.ensures.well_formed (subst P c.part.ensures.part c.in_err-imports.ensures.fault))
-
-pub returns-then-is_own-clause-malformed : goal.returns-then-is_own-clause-malformed
-returns-then-is_own-clause-malformed c =
-    let bytes = c.args.bytes.now in
-    let placed : unplaced_cells bytes (part_of bytes 101) ≡ None = ap (unplaced_cells bytes) (sym c.part.ensures.part) ∙ c.in_ok-imports.ensures.ok in
-    let P : Option Fault → Type 0 = λ o. IfErr c.read_own.result (λ e. RefusedBy o e) in
-    subst P (sym (after_imports c.args.method_rows bytes c.requires.native c.in_ok-header.ensures.well_formed placed)) c.read_own.ensures.malformed
-
-pub returns-then-is_own-clause-well_formed : goal.returns-then-is_own-clause-well_formed
-returns-then-is_own-clause-well_formed c =
-    let bytes = c.args.bytes.now in
-    let placed : unplaced_cells bytes (part_of bytes 101) ≡ None = ap (unplaced_cells bytes) (sym c.part.ensures.part) ∙ c.in_ok-imports.ensures.ok in
-    let P : Option Fault → Type 0 = λ o. OnOk c.read_own.result (o ≡ None) in
-    subst P (sym (after_imports c.args.method_rows bytes c.requires.native c.in_ok-header.ensures.well_formed placed)) c.read_own.ensures.well_formed
+pub returns-clause-malformed : goal.returns-clause-malformed
+returns-clause-malformed c =
+    let P : List ℕ → Type 0 =
+    λ b. IfErr c.read_image.result (λ (e : ReadRefusal). RefusedBy (first_fault (rtr_checks c.args.method_rows) b) e) in
+    subst P c.new-file.ensures c.read_image.ensures.malformed
 
 pub returns-clause-well_formed : goal.returns-clause-well_formed
 returns-clause-well_formed c =
-    let bytes = c.args.bytes.now in
-    let placed : unplaced_cells bytes (part_of bytes 101) ≡ None = ap (unplaced_cells bytes) (sym c.part.ensures.part) ∙ c.in_ok-imports.ensures.ok in
-    let foreign : is_own bytes ≡ false = sym c.is_own.ensures ∙ c.if-is_own.false in
-    after_imports c.args.method_rows bytes c.requires.native c.in_ok-header.ensures.well_formed placed ∙ none_foreign c.args.method_rows bytes c.requires.native foreign
+    let P : List ℕ → Type 0 = λ b. OnOk c.read_image.result (first_fault (rtr_checks c.args.method_rows) b ≡ None) in
+    subst P c.new-file.ensures c.read_image.ensures.well_formed
 
-pub returns-then-is_own-clause-spellable : goal.returns-then-is_own-clause-spellable
-returns-then-is_own-clause-spellable c =
-    IfOk-weaker c.read_own.result _ _ (λ image e. own_spellable c.args.bytes.now image e) c.read_own.ensures.image
+pub returns-clause-image : goal.returns-clause-image
+returns-clause-image c =
+    let P : List ℕ → Type 0 = λ b. IfOk c.read_image.result (λ (image : Image). image ≡ image_of b) in
+    subst P c.new-file.ensures c.read_image.ensures.image
+
+pub returns-clause-own : goal.returns-clause-own
+returns-clause-own c =
+    let P : List ℕ → Type 0 = λ b. IfOk c.read_image.result (λ (image : Image). image ≡ image_of b) in
+    IfOk-weaker c.read_image.result _ _ (λ image e. image_own c.args.bytes.now image e)
+    (subst P c.new-file.ensures c.read_image.ensures.image)
+
+pub returns-clause-spellable : goal.returns-clause-spellable
+returns-clause-spellable c =
+    let P : List ℕ → Type 0 = λ b. IfOk c.read_image.result (λ (image : Image). image ≡ image_of b) in
+    IfOk-weaker c.read_image.result _ _ (λ image e. image_spellable c.args.bytes.now image e)
+    (subst P c.new-file.ensures c.read_image.ensures.image)

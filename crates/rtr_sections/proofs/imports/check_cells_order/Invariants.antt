@@ -1,9 +1,11 @@
-use Rattle.std.proofs.Common.{◌≡◌, ◌+◌, ◌*◌, ◌-◌}
-use Rattle.rtr_bytes.specs.Checks.{first_record}
-use Rattle.rtr_sections.specs.Imports.{follows, import_count}
+use Rattle.std.proofs.Common.{◌≡◌, ◌+◌, ◌*◌, ◌≤◌, ◌<◌, ◌^◌, drop, length}
+use Rattle.rtr_sections.specs.Listed.{first_overlap}
 use Rattle.rtr_sections.proofs.imports.check_cells_order.Given as goal
 
--- the first record out of order is among those that are left
-abbrev pub invariant-loop-i : goal.invariant-loop-i
-invariant-loop-i l =
-    first_record (follows l.bytes) (l.part.start + 20 * l.i) 20 (import_count l.part - l.i) ≡ first_record (follows l.bytes) (l.part.start + 20) 20 (import_count l.part - 1)
+abbrev pub invariant-loop-import : goal.invariant-loop-import
+invariant-loop-import l = record {
+  -- the first that is out of order is among those that are left
+  checked : first_overlap (λ i. i.rva) (λ i. i.rva + i.size) l.end l.place 20 (drop l.import-index l.imports) ≡ first_overlap
+      (λ i. i.rva) (λ i. i.rva + i.size) 0 l.at 20 l.imports;
+  here : l.place ≡ l.at + 20 * l.import-index;
+}

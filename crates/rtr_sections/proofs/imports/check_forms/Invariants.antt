@@ -1,9 +1,12 @@
-use Rattle.std.proofs.Common.{◌≡◌, ◌+◌, ◌*◌, ◌-◌}
-use Rattle.rtr_bytes.specs.Checks.{first_record}
-use Rattle.rtr_sections.specs.Imports.{has_own_form, import_count}
+use Rattle.std.proofs.Common.{◌≡◌, ◌+◌, ◌*◌, ◌≤◌, drop, length}
+use Rattle.rtr_sections.specs.Listed.{first_failing}
+use Rattle.rtr_sections.specs.Imports.{is_own_import}
 use Rattle.rtr_sections.proofs.imports.check_forms.Given as goal
 
--- the first record of another form is among those that are left
-abbrev pub invariant-loop-i : goal.invariant-loop-i
-invariant-loop-i l =
-    first_record (has_own_form l.bytes) (l.part.start + 20 * l.i) 20 (import_count l.part - l.i) ≡ first_record (has_own_form l.bytes) l.part.start 20 (import_count l.part)
+abbrev pub invariant-loop-import : goal.invariant-loop-import
+invariant-loop-import l = record {
+  -- the first that fails is among those that are left
+  checked : first_failing (is_own_import l.file) l.place 20 (drop l.import-index l.imports) ≡ first_failing
+      (is_own_import l.file) l.at 20 l.imports;
+  here : l.place ≡ l.at + 20 * l.import-index;
+}

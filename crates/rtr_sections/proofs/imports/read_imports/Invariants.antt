@@ -9,7 +9,8 @@ invariant-loop-i l =
     let left = import_count l.part - l.i in
     record {
       -- what was read and what is left are all of the records
-      read : l.imports.items ++ records (import_at l.bytes) at 20 left ≡ records (import_at l.bytes) l.part.start 20 (import_count l.part);
+      read : l.imports.items ++ records (import_at l.file) at 20 left ≡ records (import_at l.file) l.part.start 20 (import_count l.part);
       -- the first bad one is among those that are left
-      checked : first_record (cells_are_placed l.bytes) at 20 left ≡ first_record (cells_are_placed l.bytes) l.part.start 20 (import_count l.part);
+      checked : first_record (cells_are_placed l.file) at 20 left ≡ first_record (cells_are_placed l.file) l.part.start 20
+          (import_count l.part);
     }

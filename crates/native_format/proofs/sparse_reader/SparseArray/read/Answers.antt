@@ -11,7 +11,11 @@ returns-in_default-entry_size_of-clause-none c =
     wrong_size c.args.bytes.now c.args.at c.in-Some.header c.in-Some.index_at c.in-Some.ensures.exact c.in_default-entry_size_of.ensures
 
 pub overflow_mul-entry_size : goal.overflow_mul-entry_size
-overflow_mul-entry_size c = let fits = index_fits c.in-Some.header c.in-Some-entry_size_of.entry_size (uint_small c.args.bytes.now c.args.at c.in-Some.header c.in-Some.index_at (λ i. omega (arith, c.type_inv.bytes i)) c.in-Some.ensures.exact) (size_small c.in-Some.header c.in-Some-entry_size_of.entry_size c.in-Some-entry_size_of.ensures).1 in omega (arith, fits)
+overflow_mul-entry_size c = let fits =
+    index_fits c.in-Some.header c.in-Some-entry_size_of.entry_size
+    (uint_small c.args.bytes.now c.args.at c.in-Some.header c.in-Some.index_at
+    (λ i. omega (arith, c.type_inv.bytes i)) c.in-Some.ensures.exact)
+    (size_small c.in-Some.header c.in-Some-entry_size_of.entry_size c.in-Some-entry_size_of.ensures).1 in omega (arith, fits)
 
 pub returns-then-index_at-entry_size-clause-none : goal.returns-then-index_at-entry_size-clause-none
 returns-then-index_at-entry_size-clause-none c =
