@@ -30,6 +30,10 @@ abbrev pub of_worker : ℕ → List WorkerEvent → List CellEvent
 of_worker w [] = []
 of_worker w (e ∷ es) = if e.worker == w then e.event ∷ of_worker w es else of_worker w es
 
+abbrev pub OneOf : Bool → Type 0 → Type 0 → Type 0
+OneOf true A B = A
+OneOf false A B = B
+
 module _ (plan : List CellPlan) where
   -- what the cell holds once it is asked
   abbrev pub value_of : ℕ → ℕ
@@ -112,7 +116,7 @@ module _ (plan : List CellPlan) where
     -- after an ask or a new answer of the cell, or a new answer of a cell that comes after it, it is the bound value
     pub shown : In (shown l) c → bound_of plan c ≡ Some a
     -- where nobody else asked, a cell that isn't eager and that the worker hasn't asked answers its initial value
-    pub quiet : quiet → is_eager plan c ≡ false → ¬ (In (asks l) c) → a ≡ initial_of plan c
+    pub untouched : quiet → is_eager plan c ≡ false → ¬ (In (asks l) c) → a ≡ initial_of plan c
 
   abbrev pub IsAllowed : Type 0 → List CellEvent → CellEvent → Type 0
   IsAllowed quiet l (Loaded c a) = AllowedAnswer quiet l c a
@@ -126,10 +130,6 @@ module _ (plan : List CellPlan) where
   abbrev pub OnlyAsker : ℕ → List WorkerEvent → Type 0
   OnlyAsker w [] = Unit {0}
   OnlyAsker w (e ∷ es) = ((c : ℕ) → e.event ≡ Asked c → is_eager plan c ≡ false → e.worker ≡ w) × OnlyAsker w es
-
-  abbrev pub OneOf : Bool → Type 0 → Type 0 → Type 0
-  OneOf true A B = A
-  OneOf false A B = B
 
   -- nobody did before the worker's last event
   abbrev pub Quiet : ℕ → List WorkerEvent → Type 0

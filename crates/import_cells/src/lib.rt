@@ -14,6 +14,7 @@ mod seat;
 pub use cells::Cells;
 pub use event::{CellEvent, SeatView};
 
+pub use laws::{answers_are_allowed, words_change_once};
 pub use plan::{CellPlan, is_plan};
 pub use seat::Seat;
 
