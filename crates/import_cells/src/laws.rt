@@ -1,6 +1,6 @@
 //! The laws of shared binding.
 
-ghost use Rattle.import_cells.specs.Laws.{EachIsAllowed, OwnAsksAreInOrder, IsInitialOrBound, ChangesOnce, StaysBound, NewAfterFirst};
+ghost use Rattle.import_cells.specs.Laws.{EachIsAllowed, OwnAsksAreInOrder, IsInitialOrBound, ChangesOnce, StaysBound, NewAfterFirst, KnowsAfter, SeatIsAllowed, NextAnswers, RuleSays};
 
 /// Over every list of events in which a cell is asked only after its `first` cells are bound, the answers of
 /// each worker are allowed.
@@ -17,4 +17,22 @@ pub fn words_change_once()
     ensures once { ChangesOnce }
     ensures stays { StaysBound }
     ensures first { NewAfterFirst }
+{}
+
+/// What a seat has asked and seen after its calls, as a function of the seat before and of the answers.
+pub fn what_a_seat_knows()
+    ensures { KnowsAfter }
+{}
+
+/// The answers to the calls of one seat are allowed. They are so with nobody else about, where the seat has
+/// the whole share and has asked eager cells alone.
+pub fn seats_answers_are_allowed()
+    ensures each { SeatIsAllowed }
+    ensures load { NextAnswers }
+{}
+
+/// What the rule of the table says of the words and of all seats: where a cell's word isn't its initial value,
+/// its `first` cells have their bound values and were asked with some seat.
+pub fn what_the_rule_says()
+    ensures { RuleSays }
 {}

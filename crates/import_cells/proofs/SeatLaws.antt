@@ -1,0 +1,85 @@
+-- What a seat knows after its calls, and that their answers are allowed.
+use Rattle.std.proofs.Common.{◌≡◌, ◌≢◌, ℕ, ◌⊎◌, inl, inr, ⊎_elim, ◌↔◌, true, false, List, [], ◌∷◌, ◌++◌, Some, sym, refl, ap, ◌∙◌, subst}
+use mathlib.Core.Logic.{dite}
+use native.Mathlib.Decide.{ℕ_discrete}
+use Rattle.import_cells.specs.declared.plan.CellPlan.{CellPlan}
+use Rattle.import_cells.specs.declared.event.CellEvent.{CellEvent}
+use Rattle.import_cells.specs.declared.event.CellEvent.TheVariants.{Loaded, Asked}
+use Rattle.import_cells.specs.declared.event.SeatView.{SeatView}
+use Rattle.import_cells.specs.Plan.{In, initial_of, bound_of, is_eager, IsReady}
+use Rattle.import_cells.specs.Core.{asks, asked_on, word_after, asked_after, shown_by, shown, AllowedAnswer, IsAllowed, Allowed}
+use Rattle.import_cells.specs.Seats.{whole, after_event, after_events, Run, IsNext, Answer}
+use Rattle.import_cells.specs.Laws.{Knows, Replies, Called, BeginsAlone}
+use Rattle.import_cells.proofs.Lists.{in_front, in_back, in_either}
+use Rattle.import_cells.proofs.CoreLaws.{on_more, on_new, on_either, word_either, asked_is_bound, new_was_asked, ready_was_asked}
+
+-- the answer of a load that is the core's next event
+pub next_answer : (v : SeatView) (c a : ℕ) → IsNext v (Loaded c a) → Answer v c a
+next_answer v c a next =
+    let r : Run v = next.0 in
+    let is : a ≡ word_after v.plan r.events c = next.1 in
+    let bound = λ (i : In (asked_after v.plan r.events) c). subst (λ n. bound_of v.plan c ≡ Some n) (sym is) (asked_is_bound v.plan r.events r.core c i) in
+    record {
+      word = subst (λ n. (n ≡ initial_of v.plan c) ⊎ (bound_of v.plan c ≡ Some n)) (sym is) (word_either v.plan r.events c);
+      ready = λ e. bound (ready_was_asked v.plan r.events c e);
+      known = λ k. bound (⊎_elim (λ i. r.asked c i) (λ i. r.seen c i) k);
+      alone = λ all no. is ∙ dite (ℕ_discrete (word_after v.plan r.events c) (initial_of v.plan c)) (λ e. e) (λ n. absurd (no (r.alone all c (new_was_asked v.plan r.events c n))));
+    }
+
+asks_on : (x : CellEvent) (l : List CellEvent) (c : ℕ) → In (asked_on x []) c ⊎ In (asks l) c → In (asks (x ∷ l)) c
+asks_on (Loaded d a) l c (inl i) = absurd i
+asks_on (Loaded d a) l c (inr i) = i
+asks_on (Asked d) l c (inl (inl e)) = inl e
+asks_on (Asked d) l c (inl (inr i)) = absurd i
+asks_on (Asked d) l c (inr i) = inr i
+
+asks_either : (x : CellEvent) (l : List CellEvent) (c : ℕ) → In (asks (x ∷ l)) c → In (asked_on x []) c ⊎ In (asks l) c
+asks_either (Loaded d a) l c i = inr i
+asks_either (Asked d) l c (inl e) = inl (inl e)
+asks_either (Asked d) l c (inr i) = inr i
+
+pub knows : (v : SeatView) (l : List CellEvent) → Knows v l (after_events v l)
+knows v [] = record { plan = refl; share = refl; log = refl; asked = λ c. (λ i. inr i, λ e. ⊎_elim (λ i. absurd i) (λ i. i) e); seen = λ c. (λ i. inr i, λ e. ⊎_elim (λ i. absurd i) (λ i. i) e) }
+knows v (x ∷ l) = more (knows v l)
+  where
+    more : Knows v l (after_events v l) → Knows v (x ∷ l) (after_events v (x ∷ l))
+    more k = record {
+      plan = k.plan;
+      share = k.share;
+      log = ap (λ (z : List CellEvent). x ∷ z) k.log;
+      asked = λ c. (
+        (λ i. ⊎_elim (λ j. inl (asks_on x l c (inl j))) (λ j. ⊎_elim (λ q. inl (asks_on x l c (inr q))) (λ q. inr q) ((k.asked c).0 j)) (on_either x (after_events v l).asked c i)),
+        λ e. ⊎_elim (λ i. ⊎_elim (λ j. on_new x (after_events v l).asked c j) (λ j. on_more x (after_events v l).asked c ((k.asked c).1 (inl j))) (asks_either x l c i)) (λ i. on_more x (after_events v l).asked c ((k.asked c).1 (inr i))) e,
+      );
+      seen = λ c. (
+        (λ i. ⊎_elim (λ j. inl (in_front (shown_by v.plan x) (shown v.plan l) c (subst (λ (p : List CellPlan). In (shown_by p x) c) k.plan j)))
+            (λ j. ⊎_elim (λ q. inl (in_back (shown_by v.plan x) (shown v.plan l) c q)) (λ q. inr q) ((k.seen c).0 j)) (in_either (shown_by (after_events v l).plan x) (after_events v l).seen c i)),
+        λ e. ⊎_elim
+            (λ i. ⊎_elim (λ j. in_front (shown_by (after_events v l).plan x) (after_events v l).seen c (subst (λ (p : List CellPlan). In (shown_by p x) c) (sym k.plan) j))
+                (λ j. in_back (shown_by (after_events v l).plan x) (after_events v l).seen c ((k.seen c).1 (inl j))) (in_either (shown_by v.plan x) (shown v.plan l) c i))
+            (λ i. in_back (shown_by (after_events v l).plan x) (after_events v l).seen c ((k.seen c).1 (inr i))) e,
+      );
+    }
+
+pub called : (v : SeatView) (l : List CellEvent) (v' : SeatView) → Called v l v' → v' ≡ after_events v l
+called v [] v' h = h
+called v (x ∷ l) v' h = h.2.1 ∙ ap (λ (m : SeatView). after_event m x) (called v l h.0 h.1)
+
+pub allowed : (v : SeatView) (l : List CellEvent) (v' : SeatView) → Called v l v' → Allowed v.plan (BeginsAlone v) l
+allowed v [] v' h = tt
+allowed v (x ∷ l) v' h = (by x (subst (λ (m : SeatView). Replies m x) (called v l h.0 h.1) h.2.0) (knows v l), allowed v l h.0 h.1)
+  where
+    by : (y : CellEvent) → Replies (after_events v l) y → Knows v l (after_events v l) → IsAllowed v.plan (BeginsAlone v) l y
+    by (Asked c) r k = tt
+    by (Loaded c a) r k =
+        let q = subst (λ (p : List CellPlan). (a ≡ initial_of p c) ⊎ (bound_of p c ≡ Some a)) k.plan r.word in
+        record {
+          word = q;
+          ready = subst (λ (p : List CellPlan). IsReady p c → bound_of p c ≡ Some a) k.plan r.ready;
+          shown = λ i. subst (λ (p : List CellPlan). bound_of p c ≡ Some a) k.plan (r.known (inr ((k.seen c).1 (inl i))));
+          untouched = λ begins lazy no. subst (λ (p : List CellPlan). a ≡ initial_of p c) k.plan
+              (r.alone (k.share ∙ begins.0) (λ i. ⊎_elim (λ j. no j) (λ j. lazy_asked c lazy (begins.1 c j)) ((k.asked c).0 i)));
+        }
+      where
+        lazy_asked : (d : ℕ) → is_eager v.plan d ≡ false → is_eager v.plan d ≡ true → ⊥
+        lazy_asked d p q = let e : false ≡ true = sym p ∙ q in cc
