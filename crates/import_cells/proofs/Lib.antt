@@ -6,3 +6,5 @@ pub mod Views
 pub mod RuleKept
 pub mod RuleSays
 pub mod SeatLaws
+pub mod Flags
+pub mod SeatsKept

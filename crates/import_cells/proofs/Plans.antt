@@ -1,8 +1,8 @@
 -- What a plan says of one cell.
-use Rattle.std.proofs.Common.{◌≡◌, ◌≢◌, ℕ, zero, suc, ◌+◌, ◌<◌, ◌≤◌, ◌&&◌, ◌⊎◌, inl, inr, ⊎_elim, Bool, true, false, List, [], ◌∷◌, map, length, get_or, Option, Some, None, is_some, sym, refl, ap, ◌∙◌, subst, arith, add-one, if◌then◌else◌}
+use Rattle.std.proofs.Common.{◌≡◌, ◌≢◌, ℕ, zero, suc, ◌+◌, ◌<◌, ◌≤◌, ◌&&◌, ◌⊎◌, ◌↔◌, inl, inr, ⊎_elim, Bool, true, false, List, [], ◌∷◌, map, length, get_or, Option, Some, None, is_some, sym, refl, ap, ◌∙◌, subst, arith, add-one, if◌then◌else◌}
 use Rattle.std.specs.Option.{unwrap_or}
 use Rattle.std.specs.List.{All, slice_get}
-use Rattle.std.proofs.lemmas.Option.{slice_get_cases}
+use Rattle.std.proofs.lemmas.Option.{slice_get_cases, slice_get_read}
 use Rattle.import_cells.specs.declared.plan.CellPlan.{CellPlan}
 use Rattle.import_cells.specs.Plan.{In, initial_in, bound_in, eager_in, first_in, is_ready, opening_in, ready_from, initial_of, bound_of, is_eager, first_of, can_bind, IsReady, ready_cells, IsSound, IsPlan}
 use Rattle.import_cells.specs.Core.{value_of, opening_of}
@@ -121,3 +121,20 @@ module _ (plan : List CellPlan) where
       mapped [] k h = absurd (omega arith)
       mapped (p ∷ ps) zero h = refl
       mapped (p ∷ ps) (suc k) h = mapped ps k (omega arith)
+
+  -- the flag that a seat begins with
+  pub ready_flag : (c : ℕ) → c < length plan → (get_or (map is_ready plan) c false ≡ true) ↔ IsReady plan c
+  ready_flag c h = (
+    (λ e. there_is_ready (slice_get plan c) (sym (mapped plan c h) ∙ e)),
+    λ r. mapped plan c h ∙ is_ready_there (slice_get plan c) r.0 r.1,
+  )
+    where
+      mapped : (ps : List CellPlan) (k : ℕ) → k < length ps → get_or (map is_ready ps) k false ≡ ready_there (slice_get ps k)
+      mapped [] k i = absurd (omega arith)
+      mapped (p ∷ ps) zero i = refl
+      mapped (p ∷ ps) (suc k) i = mapped ps k (omega arith)
+
+-- a cell's initial value as it is read from a copy of the plan
+pub initial_read : (plan key : List CellPlan) (c : ℕ) (p : CellPlan) → key ≡ plan → c < length plan → p ≡ get_or plan c p → p.initial ≡ initial_of key c
+initial_read plan key c p same inside read =
+    ap initial_in (sym (slice_get_read plan (length plan) c p refl inside read)) ∙ ap (λ (l : List CellPlan). initial_of l c) (sym same)

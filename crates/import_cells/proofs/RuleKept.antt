@@ -6,7 +6,7 @@ use native.Mathlib.Decide.{ℕ_discrete}
 use lib.ListN.{get_elem?}
 use lib.Seq.{set-get_or}
 use prog.Atomic.{either}
-use Rattle.std.proofs.Math.ListN.{length-append, length-map}
+use Rattle.std.proofs.lemmas.List.{length-append, length-map}
 use Rattle.atomic_table.specs.Table.{State, Me, step, keeps, Allows, Splits, Joins, opening}
 use Rattle.atomic_table.proofs.Lists.{at_set, set_here, set_else, at_longer, exchanged}
 use Rattle.import_cells.specs.declared.plan.CellPlan.{CellPlan}
@@ -38,7 +38,7 @@ alone_asked plan s r id v at all c i = let t = r.told c i in dite (ℕ_discrete 
         let nothing : t.1.share ≡ 0 = omega arith in
         absurd (subst (λ (l : List ℕ). In l c) (((r.views t.0 t.1 t.2).spent nothing).0) t.3))
 
-run_here : (s : St) (id : ℕ) (v : SeatView) → Kept v.plan s → get_elem? s.views id ≡ some v → 0 < v.share → Run v
+abbrev run_here : (s : St) (id : ℕ) (v : SeatView) → Kept v.plan s → get_elem? s.views id ≡ some v → 0 < v.share → Run v
 run_here s id v r at live = record {
   worker = id;
   events = r.events;
@@ -51,7 +51,7 @@ run_here s id v r at live = record {
 }
 
 -- the rule, at the plan that the seat knows
-own_rule : (plan : List CellPlan) (s : St) (id : ℕ) (v : SeatView) → Kept plan s → get_elem? s.views id ≡ some v → 0 < v.share → (v.plan ≡ plan) × Kept v.plan s
+abbrev own_rule : (plan : List CellPlan) (s : St) (id : ℕ) (v : SeatView) → Kept plan s → get_elem? s.views id ≡ some v → 0 < v.share → (v.plan ≡ plan) × Kept v.plan s
 own_rule plan s id v r at live = let e = (r.views id v at).plan_is live in (e, subst (λ (p : List CellPlan). Kept p s) (sym e) r)
 
 pub run_at : (plan : List CellPlan) (s : St) (id : ℕ) (v : SeatView) → Kept plan s → get_elem? s.views id ≡ some v → 0 < v.share → Run v

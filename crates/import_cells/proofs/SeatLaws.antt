@@ -1,5 +1,5 @@
 -- What a seat knows after its calls, and that their answers are allowed.
-use Rattle.std.proofs.Common.{◌≡◌, ◌≢◌, ℕ, ◌⊎◌, inl, inr, ⊎_elim, ◌↔◌, true, false, List, [], ◌∷◌, ◌++◌, Some, sym, refl, ap, ◌∙◌, subst}
+use Rattle.std.proofs.Common.{◌≡◌, ◌≢◌, ℕ, ◌+◌, ◌-◌, ◌⊎◌, inl, inr, ⊎_elim, ◌↔◌, true, false, arith, List, [], ◌∷◌, ◌++◌, Some, sym, refl, ap, ◌∙◌, subst}
 use mathlib.Core.Logic.{dite}
 use native.Mathlib.Decide.{ℕ_discrete}
 use Rattle.import_cells.specs.declared.plan.CellPlan.{CellPlan}
@@ -83,3 +83,10 @@ allowed v (x ∷ l) v' h = (by x (subst (λ (m : SeatView). Replies m x) (called
       where
         lazy_asked : (d : ℕ) → is_eager v.plan d ≡ false → is_eager v.plan d ≡ true → ⊥
         lazy_asked d p q = let e : false ≡ true = sym p ∙ q in cc
+
+-- the same of the step on word k
+pub next_from : (v m : SeatView) (c a k : ℕ) → m ≡ v → k ≡ c + 1 → IsNext m (Loaded (k - 1) a) → IsNext v (Loaded c a)
+next_from v m c a k e is next = subst (λ (z : SeatView). IsNext z (Loaded c a)) e (subst (λ n. IsNext m (Loaded n a)) (omega arith) next)
+
+pub next_ask : (v m : SeatView) (c k : ℕ) → m ≡ v → k ≡ c + 1 → IsNext m (Asked (k - 1)) → IsNext v (Asked c)
+next_ask v m c k e is next = subst (λ (z : SeatView). IsNext z (Asked c)) e (subst (λ n. IsNext m (Asked n)) (omega arith) next)

@@ -145,12 +145,14 @@ fn no_flags(alloc: Global, count: usize) -> Result<Vec<bool>, NoMemory>
     Ok(flags)
 }
 
-// Sets each flag that is set in the other ones.
+// Sets each flag that is set among the others.
 fn unite(flags: &mut [bool], others: &[bool])
     requires { length flags.old ≡ length others.now }
-    ensures { (c : ℕ) → slice_index_or flags.new c false ≡ (slice_index_or flags.old c false || slice_index_or others.now c false) }
+    ensures { (c : ℕ) → c < length others.now → slice_index_or flags.new c false ≡ (slice_index_or flags.old c false || slice_index_or others.now c false) }
 {
-    for (flag, other) in flags.iter_mut().zip(others) {
-        *flag = *flag || *other;
+    for (number, other) in others.iter().enumerate() {
+        if *other {
+            flags[number] = true;
+        }
     }
 }
