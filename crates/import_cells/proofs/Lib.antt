@@ -8,3 +8,4 @@ pub mod RuleSays
 pub mod SeatLaws
 pub mod Flags
 pub mod SeatsKept
+pub mod TestCells

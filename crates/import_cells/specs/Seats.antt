@@ -1,11 +1,11 @@
 -- What callers see of the cells and of a seat, and how a seat's calls change what is known with it.
-use Rattle.std.specs.Prelude.{◌≡◌, ℕ, ◌+◌, ◌-◌, ◌/◌, ◌<◌, ◌⊎◌, false, List, [], ◌∷◌, ◌++◌, length, Option, Some}
+use Rattle.std.specs.Prelude.{◌≡◌, ℕ, ◌+◌, ◌-◌, ◌/◌, ◌<◌, ◌≤◌, ◌⊎◌, false, List, [], ◌∷◌, ◌++◌, length, Option, Some}
 use Rattle.atomic_table.specs.Seated.{TableId}
 use Rattle.import_cells.specs.declared.plan.CellPlan.{CellPlan}
 use Rattle.import_cells.specs.declared.event.CellEvent.{CellEvent}
 use Rattle.import_cells.specs.declared.event.CellEvent.TheVariants.{Loaded, Asked}
 use Rattle.import_cells.specs.declared.event.SeatView.{SeatView}
-use Rattle.import_cells.specs.Plan.{In, initial_of, bound_of, is_eager, IsReady, ready_cells}
+use Rattle.import_cells.specs.Plan.{In, initial_of, bound_of, first_of, is_eager, IsReady, ready_cells}
 use Rattle.import_cells.specs.Core.{WorkerEvent, of_worker, word_after, asked_on, asked_after, shown_by, IsCore, IsCoreEvent, AsksInOrder, ComesAfterFirst}
 
 -- the cells: which ones they are, and their plan
@@ -22,9 +22,29 @@ pub record SeatState : Type 0 where
 abbrev pub IsSeatOf : CellsState → SeatState → Type 0
 IsSeatOf cells seat = (seat.table ≡ cells.table) × (seat.view.plan ≡ cells.plan)
 
+-- the number names a cell
+abbrev pub HasCell : CellsState → ℕ → Type 0
+HasCell cells c = c < length cells.plan
+
+-- the word is the bound value of that cell
+abbrev pub IsBoundValue : CellsState → ℕ → ℕ → Type 0
+IsBoundValue cells c value = bound_of cells.plan c ≡ Some value
+
+-- the seat has seen the cells before that one bound
+abbrev pub HasSeenFirst : CellsState → SeatState → ℕ → Type 0
+HasSeenFirst cells seat c = (d : ℕ) → In (first_of cells.plan c) d → In seat.view.seen d
+
 -- the share of all seats together
 abbrev pub whole : ℕ
 whole = 65536
+
+-- the seat's share can be halved
+abbrev pub CanSplit : SeatState → Type 0
+CanSplit seat = 2 ≤ seat.view.share
+
+-- the seat has the whole share, so no other seat of its cells is left
+abbrev pub IsAlone : SeatState → Type 0
+IsAlone seat = seat.view.share ≡ whole
 
 -- the first seat's view
 abbrev pub first_view : List CellPlan → SeatView

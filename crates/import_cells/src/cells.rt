@@ -1,14 +1,13 @@
 //! The cells themselves.
 
-ghost use Rattle.std.specs.Prelude.{◌≡◌, ℕ, ◌<◌, ◌≤◌, ◌↔◌, true, false, Some, length, slice_index_or, replicate, ◌||◌, IfOk, OnErr, OnOk};
-ghost use Rattle.import_cells.specs.Plan.{In, bound_of, first_of, IsReady, IsPlan};
+ghost use Rattle.std.specs.Prelude.{◌≡◌, ℕ, ◌<◌, ◌↔◌, ◌||◌, true, false, length, slice_index_or, replicate, IfOk, OnErr, OnOk};
+ghost use Rattle.import_cells.specs.Plan.{In, IsReady, IsPlan};
 ghost use Rattle.import_cells.specs.Core.{asked_after};
-ghost use Rattle.import_cells.specs.Seats.{IsSeatOf, whole, first_view, after_event, kept_half, given_half, joined, IsNext, Answer, Run};
+ghost use Rattle.import_cells.specs.Seats.{IsSeatOf, HasCell, IsBoundValue, HasSeenFirst, CanSplit, IsAlone, first_view, after_event, kept_half, given_half, joined, IsNext, Answer, Run};
 ghost use Rattle.import_cells.specs.declared.event.CellEvent.TheVariants.{Loaded, Asked};
 
-use crate::event::SeatView;
 use crate::plan::{CellPlan, copied_plan, opening_words, ready_flags};
-use crate::rule::{Asks, BoundOnce, Halves, Loads, Unites, Words};
+use crate::rule::{Asks, Halves, Loads, Unites, Words};
 use crate::seat::Seat;
 use rtr_bytes::NoMemory;
 use std::alloc::Global;
@@ -54,7 +53,7 @@ impl Cells {
     /// has asked nothing. After an `Err` the seat is as before.
     pub fn split(&self, alloc: Global, seat: &mut Seat) -> Result<Seat, NoMemory>
         requires seat { IsSeatOf self.now seat.old }
-        requires share { 2 ≤ seat.old.view.share }
+        requires share { CanSplit seat.old }
         ensures table { seat.new.table ≡ seat.old.table }
         ensures kept { OnOk result (seat.new.view ≡ kept_half seat.old.view) }
         ensures given { IfOk result (λ other. (other.table ≡ self.now.table) × (other.view ≡ given_half seat.old.view)) }
@@ -68,7 +67,7 @@ impl Cells {
     /// The cell's word, by one atomic load.
     pub fn read(&self, seat: &mut Seat, cell: u32) -> u64
         requires seat { IsSeatOf self.now seat.old }
-        requires cell { cell < length self.now.plan }
+        requires cell { HasCell self.now cell }
         ensures table { seat.new.table ≡ seat.old.table }
         // A new answer shows that the cell and its `first` cells are bound.
         ensures view { seat.new.view ≡ after_event seat.old.view (Loaded cell result) }
@@ -84,9 +83,9 @@ impl Cells {
     /// where the cell is bound already.
     pub fn bind(&self, seat: &mut Seat, cell: u32, value: u64) -> u64
         requires seat { IsSeatOf self.now seat.old }
-        requires cell { cell < length self.now.plan }
-        requires value { bound_of self.now.plan cell ≡ Some value }
-        requires first { (d : ℕ) → In (first_of self.now.plan cell) d → In seat.old.view.seen d }
+        requires cell { HasCell self.now cell }
+        requires value { IsBoundValue self.now cell value }
+        requires first { HasSeenFirst self.now seat.old cell }
         ensures value { result ≡ value }
         ensures table { seat.new.table ≡ seat.old.table }
         ensures view { seat.new.view ≡ after_event seat.old.view (Asked cell) }
@@ -119,7 +118,7 @@ impl Cells {
     /// is eager and has a bound value.
     pub fn close(self, seat: Seat) -> Vec<bool>
         requires seat { IsSeatOf self seat }
-        requires share { seat.view.share ≡ whole }
+        requires share { IsAlone seat }
         ensures count { length result.items ≡ length self.plan }
         ensures asked { (c : ℕ) → c < length self.plan → (slice_index_or result.items c false ≡ true) ↔ In seat.view.asked c }
         ensures seen { (c : ℕ) → In seat.view.seen c → slice_index_or result.items c false ≡ true }
