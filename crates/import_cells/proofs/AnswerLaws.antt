@@ -1,11 +1,11 @@
 -- The answers of each worker are allowed.
-use Rattle.std.proofs.Common.{◌≡◌, ◌≢◌, ℕ, ◌==◌, ◌⊎◌, inl, inr, ⊎_elim, Bool, true, false, List, [], ◌∷◌, Some, sym, refl, ap, ◌∙◌, subst, eq-eqb, if◌then◌else◌}
+use Rattle.std.proofs.Common.{◌≡◌, ℕ, ◌==◌, ◌⊎◌, inl, inr, Bool, true, false, List, [], ◌∷◌, Some, sym, refl, ap, ◌∙◌, subst, eq-eqb, if◌then◌else◌}
 use mathlib.Core.Logic.{dite}
 use native.Mathlib.Decide.{ℕ_discrete}
 use Rattle.import_cells.specs.declared.plan.CellPlan.{CellPlan}
 use Rattle.import_cells.specs.declared.event.CellEvent.{CellEvent}
 use Rattle.import_cells.specs.declared.event.CellEvent.TheVariants.{Loaded, Asked}
-use Rattle.import_cells.specs.Plan.{In, initial_of, bound_of, is_eager, IsReady, IsPlan}
+use Rattle.import_cells.specs.Plan.{In, initial_of, bound_of, is_eager, IsPlan}
 use Rattle.import_cells.specs.Core.{WorkerEvent, asks, asked_on, of_worker, word_after, asked_after, IsCoreEvent, IsCore, AsksInOrder, AllowedAnswer, IsAllowed, Allowed, OnlyAsker, OneOf, Quiet}
 use Rattle.import_cells.proofs.Plans.{in_ready}
 use Rattle.import_cells.proofs.CoreLaws.{word_either, asked_is_bound, new_was_asked, ready_was_asked, shown_is_bound}
@@ -29,7 +29,7 @@ module _ (plan : List CellPlan) where
       by (Asked d) q (inl p) before =
           let it : e.event ≡ Asked c = q ∙ ap Asked (sym p) in
           subst (λ (b : Bool). In (asks (if b then e.event ∷ of_worker w es else of_worker w es)) c) (sym (eq-eqb e.worker w (o.0 c it lazy)))
-              (subst (λ (x : CellEvent). In (asks (x ∷ of_worker w es)) c) (sym it) (inl refl))
+          (subst (λ (x : CellEvent). In (asks (x ∷ of_worker w es)) c) (sym it) (inl refl))
       by (Asked d) q (inr j) before = before j
 
   -- a load's answer

@@ -1,16 +1,13 @@
 -- The flags in which a seat remembers what was asked.
-use Rattle.std.proofs.Common.{◌≡◌, ◌≢◌, ℕ, zero, suc, ◌+◌, ◌<◌, ◌≤◌, ◌||◌, ◌⊎◌, inl, inr, ⊎_elim, ◌↔◌, Bool, true, false, List, [], ◌∷◌, ◌++◌, map, length, replicate, get_or, set, Option, Some, None, is_some, sym, refl, ap, ◌∙◌, subst, arith, length-set, get_or-set_same, get_or-set_other}
+use Rattle.std.proofs.Common.{◌≡◌, ℕ, ◌+◌, ◌<◌, ◌≤◌, ◌||◌, ◌⊎◌, inl, inr, ⊎_elim, ◌↔◌, Bool, true, false, List, map, length, get_or, set, sym, refl, ap, ◌∙◌, subst, arith, length-set, get_or-set_same, get_or-set_other}
 use mathlib.Core.Logic.{dite}
 use native.Mathlib.Decide.{ℕ_discrete}
-use Rattle.std.proofs.lemmas.List.{length-map, length-replicate}
-use Rattle.std.proofs.lemmas.Option.{slice_get_cases}
-use Rattle.std.specs.List.{slice_get}
+use Rattle.std.proofs.lemmas.List.{length-map}
 use Rattle.import_cells.specs.declared.plan.CellPlan.{CellPlan}
-use Rattle.import_cells.specs.declared.event.CellEvent.TheVariants.{Loaded, Asked}
 use Rattle.import_cells.specs.declared.event.SeatView.{SeatView}
-use Rattle.import_cells.specs.Plan.{In, is_ready, IsReady, ready_cells, bound_of}
+use Rattle.import_cells.specs.Plan.{In, is_ready, IsReady}
 use Rattle.import_cells.specs.Core.{word_after, asked_after}
-use Rattle.import_cells.specs.Seats.{whole, first_view, after_event, given_half, joined, Run}
+use Rattle.import_cells.specs.Seats.{whole, first_view, joined, Run}
 use Rattle.import_cells.specs.Seated.{Remembers}
 use Rattle.import_cells.proofs.Lists.{in_front, in_back, in_either}
 use Rattle.import_cells.proofs.Plans.{ready_in, in_ready, can_from, bindable_inside, ready_flag}
@@ -39,7 +36,7 @@ unites_more old others n flags inside e u = let count = u.count in record {
   count = length-set flags n true ∙ count;
   done = λ c h. dite (ℕ_discrete c n)
       (λ same. subst (λ k. get_or (set flags n true) k false ≡ (get_or old k false || get_or others k false)) (sym same)
-          (get_or-set_same flags n true false (omega arith) ∙ or_true (get_or old n false) (get_or others n false) e))
+      (get_or-set_same flags n true false (omega arith) ∙ or_true (get_or old n false) (get_or others n false) e))
       (λ other. get_or-set_other flags n c true false other ∙ u.done c (omega arith));
   left = λ c h. get_or-set_other flags n c true false (λ e. omega arith) ∙ u.left c (omega arith);
 }
@@ -54,21 +51,6 @@ unites_other old others n flags e u = record {
 }
 
 -- ---- what a seat remembers
-
-pub remembers_same : (flags : List Bool) (v u : SeatView) → u.plan ≡ v.plan → u.asked ≡ v.asked → Remembers flags v → Remembers flags u
-remembers_same flags v u p q r = record {
-  count = r.count ∙ ap length (sym p);
-  each = λ c h. subst (λ (l : List ℕ). (get_or flags c false ≡ true) ↔ In l c) (sym q) (r.each c (subst (λ (l : List CellPlan). c < length l) p h));
-}
-
-pub remembers_more : (flags : List Bool) (v : SeatView) (c : ℕ) → c < length v.plan → Remembers flags v → Remembers (set flags c true) (after_event v (Asked c))
-remembers_more flags v c inside r = let count = r.count in record {
-  count = length-set flags c true ∙ count;
-  each = λ d h. dite (ℕ_discrete d c)
-      (λ e. ((λ _. inl e), λ _. subst (λ k. get_or (set flags c true) k false ≡ true) (sym e) (get_or-set_same flags c true false (omega arith))))
-      (λ n. let same = get_or-set_other flags c d true false n in
-          ((λ e. inr ((r.each d h).0 (sym same ∙ e))), λ i. same ∙ (r.each d h).1 (⊎_elim (λ e. absurd (n e)) (λ j. j) i)));
-}
 
 or_either : (a b : Bool) → (a || b) ≡ true → (a ≡ true) ⊎ (b ≡ true)
 or_either true b e = inl refl
@@ -90,17 +72,6 @@ remembers_both flags old others v u same p united r q = let count = r.count in l
     (λ e. ⊎_elim (λ a. in_front v.asked u.asked c ((r.each c h).0 a)) (λ b. in_back v.asked u.asked c ((q.each c h').0 b)) (or_either (get_or old c false) (get_or others c false) (sym is ∙ e))),
     λ i. is ∙ ⊎_elim (λ j. or_left (get_or old c false) (get_or others c false) ((r.each c h).1 j)) (λ j. or_right (get_or old c false) (get_or others c false) ((q.each c h').1 j)) (in_either v.asked u.asked c i),
   );
-}
-
-none_set : (n c : ℕ) → get_or (replicate n false) c false ≡ false
-none_set zero c = refl
-none_set (suc n) zero = refl
-none_set (suc n) (suc c) = none_set n c
-
-pub remembers_none : (plan : List CellPlan) (v : SeatView) → v.plan ≡ plan → Remembers (replicate (length plan) false) (given_half v)
-remembers_none plan v e = record {
-  count = length-replicate (length plan) false ∙ ap length (sym e);
-  each = λ c h. ((λ set. let no : false ≡ true = sym (none_set (length plan) c) ∙ set in cc), λ i. absurd i);
 }
 
 pub remembers_ready : (plan : List CellPlan) → Remembers (map is_ready plan) (first_view plan)

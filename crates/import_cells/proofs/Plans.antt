@@ -1,7 +1,7 @@
 -- What a plan says of one cell.
 use Rattle.std.proofs.Common.{◌≡◌, ◌≢◌, ℕ, zero, suc, ◌+◌, ◌<◌, ◌≤◌, ◌&&◌, ◌⊎◌, ◌↔◌, inl, inr, ⊎_elim, Bool, true, false, List, [], ◌∷◌, map, length, get_or, Option, Some, None, is_some, sym, refl, ap, ◌∙◌, subst, arith, add-one, if◌then◌else◌}
 use Rattle.std.specs.Option.{unwrap_or}
-use Rattle.std.specs.List.{All, slice_get}
+use Rattle.std.specs.List.{slice_get}
 use Rattle.std.proofs.lemmas.Option.{slice_get_cases, slice_get_read}
 use Rattle.import_cells.specs.declared.plan.CellPlan.{CellPlan}
 use Rattle.import_cells.specs.Plan.{In, initial_in, bound_in, eager_in, first_in, is_ready, opening_in, ready_from, initial_of, bound_of, is_eager, first_of, can_bind, IsReady, ready_cells, IsSound, IsPlan}

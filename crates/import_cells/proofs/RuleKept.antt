@@ -1,5 +1,5 @@
 -- Each step keeps the rule.
-use Rattle.std.proofs.Common.{◌≡◌, ◌≢◌, ℕ, zero, suc, ◌+◌, ◌-◌, ◌/◌, ◌<◌, ◌≤◌, ◌==◌, eqb, ◌⊎◌, inl, inr, ⊎_elim, List, [], ◌∷◌, ◌++◌, map, length, get_or, set, Option, Some, sym, refl, ap, ◌∙◌, subst, arith, length-set, get_or-set_same, get_or-set_other, if◌then◌else◌}
+use Rattle.std.proofs.Common.{◌≡◌, ◌≢◌, ℕ, zero, suc, ◌+◌, ◌-◌, ◌<◌, ◌≤◌, eqb, ⊎_elim, List, [], ◌∷◌, map, length, get_or, set, Some, sym, refl, ap, ◌∙◌, subst, arith, length-set, get_or-set_same, get_or-set_other}
 use mathlib.Core.Logic.{dite}
 use mathlib.Core.Option.{none, some, some-injective, some-ne-none}
 use native.Mathlib.Decide.{ℕ_discrete}
@@ -7,18 +7,18 @@ use lib.ListN.{get_elem?}
 use lib.Seq.{set-get_or}
 use prog.Atomic.{either}
 use Rattle.std.proofs.lemmas.List.{length-append, length-map}
-use Rattle.atomic_table.specs.Table.{State, Me, step, keeps, Allows, Splits, Joins, opening}
+use Rattle.atomic_table.specs.Table.{State, step, keeps, Allows, Splits, Joins, opening}
 use Rattle.atomic_table.proofs.Lists.{at_set, set_here, set_else, at_longer, exchanged}
 use Rattle.import_cells.specs.declared.plan.CellPlan.{CellPlan}
 use Rattle.import_cells.specs.declared.event.CellEvent.{CellEvent}
 use Rattle.import_cells.specs.declared.event.CellEvent.TheVariants.{Loaded, Asked}
 use Rattle.import_cells.specs.declared.event.SeatView.{SeatView}
-use Rattle.import_cells.specs.Plan.{In, opening_in, initial_of, bound_of, first_of, can_bind, IsPlan, ready_cells}
-use Rattle.import_cells.specs.Core.{WorkerEvent, asked_on, of_worker, value_of, word_by, word_after, asked_after, IsBound, IsCoreEvent, IsCore, ComesAfterFirst, AsksInOrder, shown_by}
+use Rattle.import_cells.specs.Plan.{In, opening_in, initial_of, bound_of, first_of, IsPlan}
+use Rattle.import_cells.specs.Core.{WorkerEvent, asked_on, of_worker, value_of, word_by, word_after, asked_after, IsCoreEvent, ComesAfterFirst, shown_by}
 use Rattle.import_cells.specs.Seats.{whole, first_view, after_event, kept_half, given_half, joined, spent_view, Run, IsNext}
-use Rattle.import_cells.specs.Shared.{shares, AskedBySome, IsView, Kept, Sitter, loaded, asked}
+use Rattle.import_cells.specs.Shared.{AskedBySome, IsView, Kept, Sitter, loaded, asked}
 use Rattle.import_cells.proofs.Lists.{in_front, in_back, in_either, where_equal, where_other}
-use Rattle.import_cells.proofs.Plans.{can_from, value_from, in_ready, ready_in, eager_is_first, opening_at}
+use Rattle.import_cells.proofs.Plans.{can_from, value_from, in_ready, eager_is_first, opening_at}
 use Rattle.import_cells.proofs.CoreLaws.{on_more, on_new, on_either, word_either, asked_is_bound, event_shows_asked}
 use Rattle.import_cells.proofs.Views.{at_below, at_one, at_end, shares_set, shares_end, two_shares, some_set}
 
@@ -30,13 +30,13 @@ St = State (Unit {0}) SeatView
 -- with the whole share a seat has asked whatever was asked
 alone_asked : (plan : List CellPlan) (s : St) (r : Kept plan s) (id : ℕ) (v : SeatView) → get_elem? s.views id ≡ some v → v.share ≡ whole
     → (c : ℕ) → In (asked_after plan r.events) c → In v.asked c
-alone_asked plan s r id v at all c i = let t = r.told c i in dite (ℕ_discrete t.0 id)
+alone_asked plan s r id v at all c i = let t = r.askers c i in dite (ℕ_discrete t.0 id)
     (λ same. subst (λ (u : SeatView). In u.asked c) (sym (at_one s.views id v t.1 at (subst (λ k. get_elem? s.views k ≡ some t.1) same t.2))) t.3)
     (λ other.
-        let two = two_shares s.views id t.0 v t.1 at t.2 other in
-        let sum = r.shared in
-        let nothing : t.1.share ≡ 0 = omega arith in
-        absurd (subst (λ (l : List ℕ). In l c) (((r.views t.0 t.1 t.2).spent nothing).0) t.3))
+    let two = two_shares s.views id t.0 v t.1 at t.2 other in
+    let sum = r.shared in
+    let nothing : t.1.share ≡ 0 = omega arith in
+    absurd (subst (λ (l : List ℕ). In l c) (((r.views t.0 t.1 t.2).spent nothing).0) t.3))
 
 abbrev run_here : (s : St) (id : ℕ) (v : SeatView) → Kept v.plan s → get_elem? s.views id ≡ some v → 0 < v.share → Run v
 run_here s id v r at live = record {
@@ -69,9 +69,9 @@ module _ (id : ℕ) (v : SeatView) (x : CellEvent) where
   abbrev it : WorkerEvent
   it = record { worker = id; event = x }
 
-  told_on : (l : List SeatView) (es : List WorkerEvent) → get_elem? l id ≡ some v → ((c : ℕ) → In (asked_after plan es) c → AskedBySome l c)
+  askers_on : (l : List SeatView) (es : List WorkerEvent) → get_elem? l id ≡ some v → ((c : ℕ) → In (asked_after plan es) c → AskedBySome l c)
       → (c : ℕ) → In (asked_on x (asked_after plan es)) c → AskedBySome (set l id w) c
-  told_on l es at told c i = ⊎_elim (λ j. (id, w, set_here l id w (at_below l id v at), on_new x v.asked c j)) (λ j. some_set l id v w c at (on_more x v.asked c) (told c j)) (on_either x (asked_after plan es) c i)
+  askers_on l es at askers c i = ⊎_elim (λ j. (id, w, set_here l id w (at_below l id v at), on_new x v.asked c j)) (λ j. some_set l id v w c at (on_more x v.asked c) (askers c j)) (on_either x (asked_after plan es) c i)
 
   closed_on : (es : List WorkerEvent) → ((c d : ℕ) → In (asked_after plan es) c → In (first_of plan c) d → In (asked_after plan es) d)
       → ((c d : ℕ) → In (asked_on x []) c → In (first_of plan c) d → In (asked_after plan es) d)
@@ -109,7 +109,7 @@ module _ (id : ℕ) (v : SeatView) (x : CellEvent) where
     unused = unused;
     words = words;
     closed = closed_on r.events r.closed first;
-    told = told_on s.views r.events at r.told;
+    askers = askers_on s.views r.events at r.askers;
     views = λ j u at'. ⊎_elim
         (λ t. subst (λ (z : ℕ × SeatView). IsView plan (it ∷ r.events) z.0 z.1) (λ i. (sym t.0 i, t.1 i)) (own_view r.events live (event_shows_asked plan r.events r.closed x core) (r.views id v at)))
         (λ t. view_on r.events j u t.0 (r.views j u t.1)) (at_set s.views id j w u at');
@@ -127,14 +127,13 @@ loads plan slots id me c inside live s r' _ at _ =
     let r = own.1 in
     let a : ℕ = get_or s.words (c + 1) 0 in
     let is : a ≡ word_after me.0.plan r.events c = r.words c (subst (λ (p : List CellPlan). c < length p) (sym own.0) inside) in
-    let back : c ≡ (c + 1) - 1 = omega arith in
-    (
+    let back : c ≡ (c + 1) - 1 = omega arith in (
       after_event me.0 (Loaded c a),
       keeps,
       tt,
       subst (λ (p : List CellPlan). Kept p record { words = set s.words (c + 1) a; homes = s.homes; views = set s.views id (after_event me.0 (Loaded c a)) }) own.0
           (subst (λ (ws : List ℕ). Kept me.0.plan record { words = ws; homes = s.homes; views = set s.views id (after_event me.0 (Loaded c a)) }) (sym (set-get_or s.words (c + 1) 0))
-              (moved id me.0 (Loaded c a) s r at live is tt (λ b d i. absurd i) s.words r.count r.unused r.words)),
+          (moved id me.0 (Loaded c a) s r at live is tt (λ b d i. absurd i) s.words r.count r.unused r.words)),
       (
         refl,
         ap (λ z. after_event me.0 (Loaded z a)) back,
@@ -163,21 +162,20 @@ exchanges plan slots id me c old new inside live from to first s r' _ at _ =
     let seen = (r.views id me.0 at).seen in
     let order : ComesAfterFirst me.0.plan r.events (Asked c) = λ d i. asked_is_bound me.0.plan r.events r.core d (seen d (first' d i)) in
     let back : c ≡ (c + 1) - 1 = omega arith in
-    let count = r.count in
-    (
+    let count = r.count in (
       after_event me.0 (Asked c),
       keeps,
       tt,
       subst (λ (p : List CellPlan). Kept p record { words = set s.words (c + 1) m; homes = s.homes; views = set s.views id (after_event me.0 (Asked c)) }) own.0
           (moved id me.0 (Asked c) s r at live (can_from me.0.plan c new to') order
-              (λ b d i f. seen d (first' d (subst (λ z. In (first_of me.0.plan z) d) (⊎_elim (λ e. e) (λ none. absurd none) i) f)))
-              (set s.words (c + 1) m) (length-set s.words (c + 1) m ∙ count)
-              (get_or-set_other s.words (c + 1) 0 m 0 (λ e. omega arith) ∙ r.unused)
-              (λ d within. dite (ℕ_discrete d c)
-                  (λ e. where_equal (λ z. get_or (set s.words (c + 1) m) (d + 1) 0 ≡ z) d c (value_of me.0.plan d) (word_after me.0.plan r.events d) e
-                      (subst (λ k. get_or (set s.words (c + 1) m) (k + 1) 0 ≡ value_of me.0.plan k) (sym e) (get_or-set_same s.words (c + 1) m 0 (omega arith) ∙ becomes)))
-                  (λ other. where_other (λ z. get_or (set s.words (c + 1) m) (d + 1) 0 ≡ z) d c (value_of me.0.plan d) (word_after me.0.plan r.events d) other
-                      (get_or-set_other s.words (c + 1) (d + 1) m 0 (λ e. other (omega arith)) ∙ r.words d within)))),
+          (λ b d i f. seen d (first' d (subst (λ z. In (first_of me.0.plan z) d) (⊎_elim (λ e. e) (λ none. absurd none) i) f)))
+          (set s.words (c + 1) m) (length-set s.words (c + 1) m ∙ count)
+          (get_or-set_other s.words (c + 1) 0 m 0 (λ e. omega arith) ∙ r.unused)
+          (λ d within. dite (ℕ_discrete d c)
+          (λ e. where_equal (λ z. get_or (set s.words (c + 1) m) (d + 1) 0 ≡ z) d c (value_of me.0.plan d) (word_after me.0.plan r.events d) e
+          (subst (λ k. get_or (set s.words (c + 1) m) (k + 1) 0 ≡ value_of me.0.plan k) (sym e) (get_or-set_same s.words (c + 1) m 0 (omega arith) ∙ becomes)))
+          (λ other. where_other (λ z. get_or (set s.words (c + 1) m) (d + 1) 0 ≡ z) d c (value_of me.0.plan d) (word_after me.0.plan r.events d) other
+          (get_or-set_other s.words (c + 1) (d + 1) m 0 (λ e. other (omega arith)) ∙ r.words d within)))),
       (
         refl,
         ap (λ z. after_event me.0 (Asked z)) back,
@@ -197,7 +195,7 @@ splits plan id v enough s r at = record {
   unused = r.unused;
   words = r.words;
   closed = r.closed;
-  told = λ c i. (let t = some_set s.views id v (kept_half v) c at (λ j. j) (r.told c i) in (t.0, t.1, at_longer (set s.views id (kept_half v)) (given_half v ∷ []) t.0 t.1 t.2, t.3));
+  askers = λ c i. (let t = some_set s.views id v (kept_half v) c at (λ j. j) (r.askers c i) in (t.0, t.1, at_longer (set s.views id (kept_half v)) (given_half v ∷ []) t.0 t.1 t.2, t.3));
   views = λ j u at'. ⊎_elim
       (λ old. ⊎_elim (λ t. subst (λ (z : ℕ × SeatView). IsView plan r.events z.0 z.1) (λ i. (sym t.0 i, t.1 i)) kept) (λ t. r.views j u t.1) (at_set s.views id j (kept_half v) u old))
       (λ t. subst (λ (z : SeatView). IsView plan r.events j z) t.0 (given j (t.1 ∙ length-set s.views id (kept_half v))))
@@ -225,7 +223,7 @@ joins plan id v other u live s r at apart at_other' = record {
   unused = r.unused;
   words = r.words;
   closed = r.closed;
-  told = λ c i. told c (r.told c i);
+  askers = λ c i. still c (r.askers c i);
   views = λ j z at'. ⊎_elim
       (λ t. subst (λ (y : ℕ × SeatView). IsView plan r.events y.0 y.1) (λ i. (sym t.0 i, t.1 i)) (spent other))
       (λ t. ⊎_elim (λ q. subst (λ (y : ℕ × SeatView). IsView plan r.events y.0 y.1) (λ i. (sym q.0 i, q.1 i)) both) (λ q. r.views j z q.1) (at_set s.views id j (joined v u) z t.1))
@@ -258,12 +256,12 @@ joins plan id v other u live s r at apart at_other' = record {
     here : get_elem? (set (set s.views id (joined v u)) other spent_view) id ≡ some (joined v u)
     here = set_else (set s.views id (joined v u)) other id spent_view (λ e. apart (sym e)) ∙ set_here s.views id (joined v u) (at_below s.views id v at)
 
-    told : (c : ℕ) → AskedBySome s.views c → AskedBySome (set (set s.views id (joined v u)) other spent_view) c
-    told c t = dite (ℕ_discrete t.0 other)
+    still : (c : ℕ) → AskedBySome s.views c → AskedBySome (set (set s.views id (joined v u)) other spent_view) c
+    still c t = dite (ℕ_discrete t.0 other)
         (λ e. (id, joined v u, here, in_back v.asked u.asked c (subst (λ (z : SeatView). In z.asked c) (sym (at_one s.views other u t.1 at_other (subst (λ k. get_elem? s.views k ≡ some t.1) e t.2))) t.3)))
         (λ n. dite (ℕ_discrete t.0 id)
-            (λ e. (id, joined v u, here, in_front v.asked u.asked c (subst (λ (z : SeatView). In z.asked c) (sym (at_one s.views id v t.1 at (subst (λ k. get_elem? s.views k ≡ some t.1) e t.2))) t.3)))
-            (λ m. (t.0, t.1, set_else (set s.views id (joined v u)) other t.0 spent_view n ∙ (set_else s.views id t.0 (joined v u) m ∙ t.2), t.3)))
+        (λ e. (id, joined v u, here, in_front v.asked u.asked c (subst (λ (z : SeatView). In z.asked c) (sym (at_one s.views id v t.1 at (subst (λ k. get_elem? s.views k ≡ some t.1) e t.2))) t.3)))
+        (λ m. (t.0, t.1, set_else (set s.views id (joined v u)) other t.0 spent_view n ∙ (set_else s.views id t.0 (joined v u) m ∙ t.2), t.3)))
 
 -- ---- the first state
 
@@ -277,7 +275,7 @@ starts plan sound = record {
   unused = refl;
   words = opening_at plan;
   closed = λ c d i f. absurd (eager_is_first plan sound c d (in_ready plan c i).0 f);
-  told = λ c i. (zero, first_view plan, refl, i);
+  askers = λ c i. (zero, first_view plan, refl, i);
   views = views;
   shared = omega arith;
   unborn = λ j h. refl;

@@ -1,5 +1,5 @@
 -- What a seat knows after its calls, and that their answers are allowed.
-use Rattle.std.proofs.Common.{◌≡◌, ◌≢◌, ℕ, ◌+◌, ◌-◌, ◌⊎◌, inl, inr, ⊎_elim, ◌↔◌, true, false, arith, List, [], ◌∷◌, ◌++◌, Some, sym, refl, ap, ◌∙◌, subst}
+use Rattle.std.proofs.Common.{◌≡◌, ℕ, ◌+◌, ◌-◌, ◌⊎◌, inl, inr, ⊎_elim, true, false, arith, List, [], ◌∷◌, Some, sym, refl, ap, ◌∙◌, subst}
 use mathlib.Core.Logic.{dite}
 use native.Mathlib.Decide.{ℕ_discrete}
 use Rattle.import_cells.specs.declared.plan.CellPlan.{CellPlan}
@@ -7,8 +7,8 @@ use Rattle.import_cells.specs.declared.event.CellEvent.{CellEvent}
 use Rattle.import_cells.specs.declared.event.CellEvent.TheVariants.{Loaded, Asked}
 use Rattle.import_cells.specs.declared.event.SeatView.{SeatView}
 use Rattle.import_cells.specs.Plan.{In, initial_of, bound_of, is_eager, IsReady}
-use Rattle.import_cells.specs.Core.{asks, asked_on, word_after, asked_after, shown_by, shown, AllowedAnswer, IsAllowed, Allowed}
-use Rattle.import_cells.specs.Seats.{whole, after_event, after_events, Run, IsNext, Answer}
+use Rattle.import_cells.specs.Core.{asks, asked_on, word_after, asked_after, shown_by, shown, IsAllowed, Allowed}
+use Rattle.import_cells.specs.Seats.{after_event, after_events, Run, IsNext, Answer}
 use Rattle.import_cells.specs.Laws.{Knows, Replies, Called, BeginsAlone}
 use Rattle.import_cells.proofs.Lists.{in_front, in_back, in_either}
 use Rattle.import_cells.proofs.CoreLaws.{on_more, on_new, on_either, word_either, asked_is_bound, new_was_asked, ready_was_asked}
@@ -56,7 +56,7 @@ knows v (x ∷ l) = more (knows v l)
             (λ j. ⊎_elim (λ q. inl (in_back (shown_by v.plan x) (shown v.plan l) c q)) (λ q. inr q) ((k.seen c).0 j)) (in_either (shown_by (after_events v l).plan x) (after_events v l).seen c i)),
         λ e. ⊎_elim
             (λ i. ⊎_elim (λ j. in_front (shown_by (after_events v l).plan x) (after_events v l).seen c (subst (λ (p : List CellPlan). In (shown_by p x) c) (sym k.plan) j))
-                (λ j. in_back (shown_by (after_events v l).plan x) (after_events v l).seen c ((k.seen c).1 (inl j))) (in_either (shown_by v.plan x) (shown v.plan l) c i))
+            (λ j. in_back (shown_by (after_events v l).plan x) (after_events v l).seen c ((k.seen c).1 (inl j))) (in_either (shown_by v.plan x) (shown v.plan l) c i))
             (λ i. in_back (shown_by (after_events v l).plan x) (after_events v l).seen c ((k.seen c).1 (inr i))) e,
       );
     }

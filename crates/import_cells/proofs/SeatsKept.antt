@@ -1,16 +1,13 @@
 -- A seat remembers what was asked with it.
-use Rattle.std.proofs.Common.{◌≡◌, ℕ, zero, suc, ◌+◌, ◌<◌, ◌≤◌, ◌||◌, Bool, true, false, List, [], ◌∷◌, ◌++◌, map, length, replicate, get_or, set, take, sym, refl, ap, ◌∙◌, subst, arith}
-use Rattle.atomic_table.specs.Table.{Me}
+use Rattle.std.proofs.Common.{◌≡◌, ℕ, zero, suc, ◌<◌, ◌||◌, Bool, false, List, [], ◌∷◌, ◌++◌, map, length, get_or, set, take, sym, refl, ap, ◌∙◌, subst, arith}
 use Rattle.atomic_table.specs.declared.shared.Seat.{Seat}
 use Rattle.import_cells.specs.declared.plan.CellPlan.{CellPlan}
-use Rattle.import_cells.specs.declared.event.CellEvent.{CellEvent}
-use Rattle.import_cells.specs.declared.event.CellEvent.TheVariants.{Loaded, Asked}
 use Rattle.import_cells.specs.declared.event.SeatView.{SeatView}
 use Rattle.import_cells.specs.Plan.{is_ready}
-use Rattle.import_cells.specs.Seats.{first_view, after_event, kept_half, given_half, joined}
+use Rattle.import_cells.specs.Seats.{first_view, joined}
 use Rattle.import_cells.specs.Shared.{Sitter}
 use Rattle.import_cells.specs.Seated.{Remembers, IsSeat}
-use Rattle.import_cells.proofs.Flags.{remembers_same, remembers_more, remembers_both, remembers_none, remembers_ready}
+use Rattle.import_cells.proofs.Flags.{remembers_both, remembers_ready}
 
 abbrev Place : Type 0
 Place = Seat (Unit {0}) SeatView
@@ -26,28 +23,6 @@ seated flags place v is remembers live = record {
 pub seat_first : (flags : List Bool) (place : Place) (plan key : List CellPlan) → flags ≡ map is_ready plan → key ≡ plan → place.me ≡ (first_view key, []) → IsSeat flags place
 seat_first flags place plan key set same is =
     seated flags place (first_view plan) (is ∙ ap (λ (p : List CellPlan). (first_view p, [])) same) (subst (λ (l : List Bool). Remembers l (first_view plan)) (sym set) (remembers_ready plan)) (omega arith)
-
-pub seat_kept : (flags : List Bool) (old place : Place) → IsSeat flags old → 2 ≤ old.me.0.share → place.me ≡ (kept_half old.me.0, old.me.1) → IsSeat flags place
-seat_kept flags old place h enough is = seated flags place (kept_half old.me.0) (is ∙ ap (λ (l : List (ℕ × Unit {0})). (kept_half old.me.0, l)) h.holds_no_slot)
-    (remembers_same flags old.me.0 (kept_half old.me.0) refl refl h.remembers) (omega arith)
-
-pub seat_given : (flags : List Bool) (old place : Place) (n : ℕ) → flags ≡ replicate n false → n ≡ length old.me.0.plan → 2 ≤ old.me.0.share → place.me ≡ (given_half old.me.0, []) → IsSeat flags place
-seat_given flags old place n unset count enough is = seated flags place (given_half old.me.0) is
-    (subst (λ (l : List Bool). Remembers l (given_half old.me.0)) (sym (unset ∙ ap (λ k. replicate k false) count)) (remembers_none old.me.0.plan old.me.0 refl)) (omega arith)
-
-pub seat_loaded : (flags : List Bool) (old place : Place) (c a : ℕ) → IsSeat flags old → place.me.1 ≡ old.me.1 → place.me.0 ≡ after_event old.me.0 (Loaded c a) → IsSeat flags place
-seat_loaded flags old place c a h slots is = record {
-  remembers = subst (Remembers flags) (sym is) (remembers_same flags old.me.0 (after_event old.me.0 (Loaded c a)) refl refl h.remembers);
-  live = subst (λ (u : SeatView). 0 < u.share) (sym is) h.live;
-  holds_no_slot = slots ∙ h.holds_no_slot;
-}
-
-pub seat_asked : (flags : List Bool) (old place : Place) (c k : ℕ) → k ≡ c → c < length old.me.0.plan → IsSeat flags old → place.me.1 ≡ old.me.1 → place.me.0 ≡ after_event old.me.0 (Asked k) → IsSeat (set flags c true) place
-seat_asked flags old place c k e inside h slots is = record {
-  remembers = subst (Remembers (set flags c true)) (sym (is ∙ ap (λ z. after_event old.me.0 (Asked z)) e)) (remembers_more flags old.me.0 c inside h.remembers);
-  live = subst (λ (u : SeatView). 0 < u.share) (sym is) h.live;
-  holds_no_slot = slots ∙ h.holds_no_slot;
-}
 
 -- what a `&mut` to the whole slice wrote
 pub whole_slice : (n : ℕ) (xs ys : List Bool) → length xs ≡ n → take n (xs ++ ys) ≡ xs

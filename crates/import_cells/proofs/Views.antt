@@ -1,7 +1,7 @@
 -- The views of all seats: their shares, and who asked a cell.
 use Rattle.std.proofs.Common.{◌≡◌, ◌≢◌, ℕ, zero, suc, ◌+◌, ◌<◌, ◌≤◌, ◌⊎◌, inl, inr, ⊎_elim, List, [], ◌∷◌, ◌++◌, length, set, sym, refl, ap, ◌∙◌, subst, arith}
 use mathlib.Core.Logic.{dite}
-use mathlib.Core.Option.{Option, some, some-injective, some-ne-none}
+use mathlib.Core.Option.{some, some-injective, some-ne-none}
 use native.Mathlib.Decide.{ℕ_discrete}
 use lib.ListN.{get_elem?}
 use Rattle.atomic_table.proofs.Lists.{set_here, set_else}
@@ -50,7 +50,7 @@ two_shares (x ∷ xs) (suc i) (suc j) v u e f n = let r = two_shares xs i j v u 
 pub some_set : (l : List SeatView) (i : ℕ) (v w : SeatView) (c : ℕ) → get_elem? l i ≡ some v → (In v.asked c → In w.asked c) → AskedBySome l c → AskedBySome (set l i w) c
 some_set l i v w c e f t = dite (ℕ_discrete t.0 i)
     (λ same.
-        let here : get_elem? l i ≡ some t.1 = subst (λ k. get_elem? l k ≡ some t.1) same t.2 in
-        let it : v ≡ t.1 = at_one l i v t.1 e here in
-        (i, w, set_here l i w (at_below l i v e), f (subst (λ (u : SeatView). In u.asked c) (sym it) t.3)))
+    let here : get_elem? l i ≡ some t.1 = subst (λ k. get_elem? l k ≡ some t.1) same t.2 in
+    let it : v ≡ t.1 = at_one l i v t.1 e here in
+    (i, w, set_here l i w (at_below l i v e), f (subst (λ (u : SeatView). In u.asked c) (sym it) t.3)))
     (λ other. (t.0, t.1, set_else l i t.0 w other ∙ t.2, t.3))

@@ -1,12 +1,11 @@
 -- What callers see of the cells and of a seat, and how a seat's calls change what is known with it.
-use Rattle.std.specs.Prelude.{◌≡◌, ℕ, ◌+◌, ◌-◌, ◌/◌, ◌<◌, ◌≤◌, ◌⊎◌, false, List, [], ◌∷◌, ◌++◌, length, Option, Some}
+use Rattle.std.specs.Prelude.{◌≡◌, ℕ, ◌+◌, ◌-◌, ◌/◌, ◌<◌, ◌≤◌, ◌⊎◌, List, [], ◌∷◌, ◌++◌, length, Some}
 use Rattle.atomic_table.specs.Seated.{TableId}
 use Rattle.import_cells.specs.declared.plan.CellPlan.{CellPlan}
 use Rattle.import_cells.specs.declared.event.CellEvent.{CellEvent}
-use Rattle.import_cells.specs.declared.event.CellEvent.TheVariants.{Loaded, Asked}
 use Rattle.import_cells.specs.declared.event.SeatView.{SeatView}
-use Rattle.import_cells.specs.Plan.{In, initial_of, bound_of, first_of, is_eager, IsReady, ready_cells}
-use Rattle.import_cells.specs.Core.{WorkerEvent, of_worker, word_after, asked_on, asked_after, shown_by, IsCore, IsCoreEvent, AsksInOrder, ComesAfterFirst}
+use Rattle.import_cells.specs.Plan.{In, initial_of, bound_of, first_of, IsReady, ready_cells}
+use Rattle.import_cells.specs.Core.{WorkerEvent, of_worker, asked_on, asked_after, shown_by, IsCore, IsCoreEvent, AsksInOrder, ComesAfterFirst}
 
 -- the cells: which ones they are, and their plan
 pub record CellsState : Type 0 where

@@ -6,7 +6,7 @@ use Rattle.atomic_table.specs.Table.{State, Me, Step}
 use Rattle.import_cells.specs.declared.plan.CellPlan.{CellPlan}
 use Rattle.import_cells.specs.declared.event.CellEvent.TheVariants.{Loaded, Asked}
 use Rattle.import_cells.specs.declared.event.SeatView.{SeatView}
-use Rattle.import_cells.specs.Plan.{In, initial_of, bound_of, first_of, can_bind, IsReady, IsPlan}
+use Rattle.import_cells.specs.Plan.{In, initial_of, bound_of, first_of, IsReady, IsPlan}
 use Rattle.import_cells.specs.Core.{WorkerEvent, of_worker, word_after, asked_after, IsCore, AsksInOrder}
 use Rattle.import_cells.specs.Seats.{whole, after_event, IsNext}
 
@@ -38,7 +38,7 @@ pub record Kept (plan : List CellPlan) (s : State (Unit {0}) SeatView) : Type 0 
   pub words : (c : ℕ) → c < length plan → slice_index s.words (c + 1) ≡ word_after plan events c
   -- a cell is asked after its `first` cells
   pub closed : (c d : ℕ) → In (asked_after plan events) c → In (first_of plan c) d → In (asked_after plan events) d
-  pub told : (c : ℕ) → In (asked_after plan events) c → AskedBySome s.views c
+  pub askers : (c : ℕ) → In (asked_after plan events) c → AskedBySome s.views c
   pub views : (id : ℕ) (v : SeatView) → get_elem? s.views id ≡ some v → IsView plan events id v
   pub shared : shares s.views ≡ whole
   pub unborn : (id : ℕ) → length s.views ≤ id → of_worker id events ≡ []

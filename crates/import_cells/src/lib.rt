@@ -13,9 +13,9 @@ mod seat;
 
 pub use cells::Cells;
 pub use event::{CellEvent, SeatView};
-
 pub use laws::{
-    answers_are_allowed, seats_answers_are_allowed, what_a_seat_knows, what_the_rule_says, words_change_once,
+    answers_are_allowed, seats_answers_are_allowed, what_a_seat_knows, what_the_rule_says,
+    words_change_once,
 };
 pub use plan::{CellPlan, is_plan};
 pub use seat::Seat;

@@ -97,9 +97,7 @@ fn is_sound(plan: &[CellPlan], cell: &CellPlan) -> bool
     ensures { IsTrue result ↔ IsSound plan.now cell.now }
 {
     let first = cell.first.as_slice();
-    let bindable = first
-        .iter()
-        .all(|number| can_bind(plan, *number));
+    let bindable = first.iter().all(|number| can_bind(plan, *number));
     bindable && !(cell.eager && !first.is_empty())
 }
 

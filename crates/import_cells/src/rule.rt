@@ -9,7 +9,7 @@ use atomic_table::{Join, Play, Split, Table, TableRule};
 use std::alloc::Global;
 use std::snapshot::Snapshot;
 
-/// The rule is told the plan when the table is made.
+/// The rule gets the plan when the table is made.
 pub type PlanKey = Snapshot<Vec<CellPlan>>;
 
 /// The words of the cells, and no slots.

@@ -20,7 +20,12 @@ fn cell(alloc: Global, initial: u64, bound: Option<u64>, eager: bool) -> CellPla
     }
 }
 
-fn call_cell(alloc: Global, initial: u64, bound: u64, first: [u32; 2]) -> Result<CellPlan, NoMemory> {
+fn call_cell(
+    alloc: Global,
+    initial: u64,
+    bound: u64,
+    first: [u32; 2],
+) -> Result<CellPlan, NoMemory> {
     Ok(CellPlan {
         initial,
         bound: Some(bound),
@@ -175,7 +180,10 @@ fn sixteen_workers_ask_every_cell(rt: HostRuntime) -> Result<(), Fail> {
     assert!(rt; is_plan(plan));
     let (cells, mut seat) = Cells::new(rt.alloc(), plan)?;
     assert!(rt; work_in_threads(&rt, rt.alloc(), &cells, plan, &mut seat, 16));
-    assert_eq!(rt; cells.close(seat).as_slice(), [true, true, true, true, true, false].as_slice());
+    assert_eq!(rt;
+        cells.close(seat).as_slice(),
+        [true, true, true, true, true, false].as_slice()
+    );
     Ok(())
 }
 
@@ -187,7 +195,10 @@ fn one_seat_is_split_fifteen_times(rt: HostRuntime) -> Result<(), Fail> {
     let (cells, mut seat) = Cells::new(rt.alloc(), plan)?;
     assert!(rt; split_and_join(&cells, rt.alloc(), &mut seat, 15));
     assert!(rt; bind_leaf(&cells, plan, &mut seat, 1));
-    assert_eq!(rt; cells.close(seat).as_slice(), [false, true, false, true, false, false].as_slice());
+    assert_eq!(rt;
+        cells.close(seat).as_slice(),
+        [false, true, false, true, false, false].as_slice()
+    );
     Ok(())
 }
 
@@ -202,7 +213,10 @@ fn no_cell_and_many(rt: HostRuntime) -> Result<(), Fail> {
     let plan = plan.as_slice();
     assert!(rt; plan.len() == MANY_CELLS && is_plan(plan));
     let (cells, mut seat) = Cells::new(rt.alloc(), plan)?;
-    assert_eq!(rt; cells.read(&mut seat, MANY_CELLS as u32 - 1), MANY_CELLS as u64 - 1);
-    assert!(rt; cells.close(seat).iter().all(|told| !told));
+    assert_eq!(rt;
+        cells.read(&mut seat, MANY_CELLS as u32 - 1),
+        MANY_CELLS as u64 - 1
+    );
+    assert!(rt; cells.close(seat).iter().all(|asked| !asked));
     Ok(())
 }

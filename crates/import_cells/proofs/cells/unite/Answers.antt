@@ -8,9 +8,9 @@ loop-number-init c = unites_none _ _ c.requires
 
 pub loop-number-preserved : goal.loop-number-preserved
 loop-number-preserved c = elim c.if-other.branch [
-    then-other w ↦ subst (Unites _ _ _) (sym w.flags-is) (unites_more _ _ _ _ (search rules) (search rules) c.loop-number.invariant)
+  | then-other w ↦ subst (Unites _ _ _) (sym w.flags-is) (unites_more _ _ _ _ (search rules) (search rules) c.loop-number.invariant)
   | else-other w ↦ subst (Unites _ _ _) (sym w.flags-is) (unites_other _ _ _ _ (search rules) c.loop-number.invariant)
-  ]
+]
 
 pub returns : goal.returns
 returns c = λ k h. c.loop-number.invariant.done k (omega arith)

@@ -1,4 +1,3 @@
-use Rattle.std.proofs.Common.{◌≡◌}
 use Rattle.import_cells.proofs.Flags.{Unites}
 use Rattle.import_cells.proofs.cells.unite.Given as goal
 

@@ -1,5 +1,4 @@
-use Rattle.std.proofs.Common.{◌≡◌, ◌∷◌, map, take}
-use Rattle.import_cells.specs.Plan.{is_ready, opening_in}
+use Rattle.std.proofs.Common.{◌≡◌, take}
 use Rattle.import_cells.proofs.plan.copied_plan.Given as goal
 
 abbrev pub invariant-loop-cell : goal.invariant-loop-cell

@@ -1,5 +1,5 @@
 use Rattle.std.proofs.Common.{◌≡◌, ◌∷◌, map, take}
-use Rattle.import_cells.specs.Plan.{is_ready, opening_in}
+use Rattle.import_cells.specs.Plan.{opening_in}
 use Rattle.import_cells.proofs.plan.opening_words.Given as goal
 
 abbrev pub invariant-loop-cell : goal.invariant-loop-cell

@@ -1,5 +1,5 @@
-use Rattle.std.proofs.Common.{◌≡◌, ◌∷◌, map, take}
-use Rattle.import_cells.specs.Plan.{is_ready, opening_in}
+use Rattle.std.proofs.Common.{◌≡◌, map, take}
+use Rattle.import_cells.specs.Plan.{is_ready}
 use Rattle.import_cells.proofs.plan.ready_flags.Given as goal
 
 abbrev pub invariant-loop-cell : goal.invariant-loop-cell

@@ -1,4 +1,4 @@
-use Rattle.std.proofs.Common.{rules, arith, ◌^◌, ◌-◌, ◌≤◌, sym, ap, subst}
+use Rattle.std.proofs.Common.{rules, ◌^◌, ◌-◌, ◌≤◌, sym, subst}
 use Rattle.import_cells.specs.declared.event.SeatView.{SeatView}
 use Rattle.import_cells.proofs.TestCells.{halves}
 use Rattle.import_cells.proofs.tests.+split_and_join.Goals as goal

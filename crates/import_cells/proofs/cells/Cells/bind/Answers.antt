@@ -10,8 +10,7 @@ use Rattle.import_cells.proofs.cells.Cells.bind.Goals as goal
 pub compare_exchange-requires : goal.compare_exchange-requires
 compare_exchange-requires c =
     let same : c.self.inside.words.shared.key.value.items ≡ c.args.self.now.plan = c.self.invariant.0 ∙ ap (λ s. s.plan) c.self.view_is in
-    let seat : c.seat.inside.place.me.0 ≡ c.args.seat.now.view = ap (λ s. s.view) c.seat.view_is in
-    (
+    let seat : c.seat.inside.place.me.0 ≡ c.args.seat.now.view = ap (λ s. s.view) c.seat.view_is in (
       search rules,
       search rules,
       exchanges c.self.inside.words.shared.key.value.items _ _ _ c.args.cell _ _ (search rules) c.seat.invariant.live

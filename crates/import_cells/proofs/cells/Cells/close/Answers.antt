@@ -1,5 +1,4 @@
-use Rattle.std.proofs.Common.{rules, ◌≡◌, ap, subst}
-use Rattle.import_cells.specs.declared.event.SeatView.{SeatView}
+use Rattle.std.proofs.Common.{◌≡◌, ap, subst}
 use Rattle.import_cells.specs.Seated.{Remembers}
 use Rattle.import_cells.specs.Seats.{Run}
 use Rattle.import_cells.proofs.RuleKept.{run_at}
