@@ -9,7 +9,8 @@ use Rattle.import_cells.specs.declared.event.SeatView.{SeatView}
 use Rattle.import_cells.specs.Plan.{In, initial_of, bound_of, is_eager, IsReady}
 use Rattle.import_cells.specs.Core.{asks, asked_on, word_after, asked_after, shown_by, shown, IsAllowed, Allowed}
 use Rattle.import_cells.specs.Seats.{after_event, after_events, Run, IsNext, Answer}
-use Rattle.import_cells.specs.Laws.{Knows, Replies, Called, BeginsAlone}
+use Rattle.import_cells.specs.Laws.{Knows, Replies, Called, BeginsAlone, FirstSeat}
+use Rattle.import_cells.proofs.Plans.{in_ready, ready_in}
 use Rattle.import_cells.proofs.Lists.{in_front, in_back, in_either}
 use Rattle.import_cells.proofs.CoreLaws.{on_more, on_new, on_either, word_either, asked_is_bound, new_was_asked, ready_was_asked}
 
@@ -83,6 +84,9 @@ allowed v (x ∷ l) v' h = (by x (subst (λ (m : SeatView). Replies m x) (called
       where
         lazy_asked : (d : ℕ) → is_eager v.plan d ≡ false → is_eager v.plan d ≡ true → ⊥
         lazy_asked d p q = let e : false ≡ true = sym p ∙ q in cc
+
+pub first_seat : FirstSeat
+first_seat plan = ((refl, λ c i. (in_ready plan c i).0), λ c r. ready_in plan c r)
 
 -- the same of the step on word k
 pub next_from : (v m : SeatView) (c a k : ℕ) → m ≡ v → k ≡ c + 1 → IsNext m (Loaded (k - 1) a) → IsNext v (Loaded c a)

@@ -5,9 +5,9 @@ use Rattle.import_cells.specs.declared.plan.CellPlan.{CellPlan}
 use Rattle.import_cells.specs.declared.event.CellEvent.{CellEvent}
 use Rattle.import_cells.specs.declared.event.CellEvent.TheVariants.{Loaded, Asked}
 use Rattle.import_cells.specs.declared.event.SeatView.{SeatView}
-use Rattle.import_cells.specs.Plan.{In, initial_of, bound_of, is_eager, first_of, IsPlan}
+use Rattle.import_cells.specs.Plan.{In, initial_of, bound_of, is_eager, first_of, IsReady, IsPlan}
 use Rattle.import_cells.specs.Core.{WorkerEvent, of_worker, word_after, IsBound, IsCore, AsksInOrder, EachAsksFirst, asks, shown, Allowed, Quiet}
-use Rattle.import_cells.specs.Seats.{whole, after_event, after_events, IsNext, Answer}
+use Rattle.import_cells.specs.Seats.{whole, first_view, after_event, after_events, IsNext, Answer}
 use Rattle.import_cells.specs.Shared.{Kept, Parts}
 
 -- the answers of each worker are allowed
@@ -66,6 +66,10 @@ Called v (e ∷ l) v' = (m : SeatView) × Called v l m × (Replies m e × (v' �
 -- the seat has the whole share, and has asked eager cells alone
 abbrev pub BeginsAlone : SeatView → Type 0
 BeginsAlone v = (v.share ≡ whole) × ((c : ℕ) → In v.asked c → is_eager v.plan c ≡ true)
+
+-- the first seat begins alone, and has seen the cells that are bound from the start
+abbrev pub FirstSeat : Type 0
+FirstSeat = (plan : List CellPlan) → BeginsAlone (first_view plan) × ((c : ℕ) → IsReady plan c → In (first_view plan).seen c)
 
 -- the answers to one seat are allowed
 abbrev pub SeatIsAllowed : Type 0

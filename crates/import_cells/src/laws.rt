@@ -1,6 +1,6 @@
 //! The laws of shared binding.
 
-ghost use Rattle.import_cells.specs.Laws.{EachIsAllowed, OwnAsksAreInOrder, IsInitialOrBound, ChangesOnce, StaysBound, NewAfterFirst, KnowsAfter, SeatIsAllowed, NextAnswers, RuleSays};
+ghost use Rattle.import_cells.specs.Laws.{EachIsAllowed, OwnAsksAreInOrder, IsInitialOrBound, ChangesOnce, StaysBound, NewAfterFirst, FirstSeat, KnowsAfter, SeatIsAllowed, NextAnswers, RuleSays};
 
 /// Over every list of events in which a cell is asked only after its `first` cells are bound, the answers of
 /// each worker are allowed.
@@ -21,7 +21,9 @@ pub fn words_change_once()
 
 /// What a seat has asked and seen after its calls, as a function of the seat before and of the answers.
 pub fn what_a_seat_knows()
-    ensures { KnowsAfter }
+    ensures after { KnowsAfter }
+    // The first seat has the whole share, and has asked eager cells alone.
+    ensures first { FirstSeat }
 {}
 
 /// The answers to the calls of one seat are allowed. They are so with nobody else about, where the seat has
