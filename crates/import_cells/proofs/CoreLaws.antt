@@ -40,41 +40,51 @@ new_differs (Some v) a i e = by (v == a) e
 
 module _ (plan : List CellPlan) where
   opening_either : (c : ℕ) → (opening_of plan c ≡ initial_of plan c) ⊎ (bound_of plan c ≡ Some (opening_of plan c))
-  opening_either c = both_ways (λ n. (n ≡ initial_of plan c) ⊎ (bound_of plan c ≡ Some n)) (is_eager plan c) (value_of plan c) (initial_of plan c) (value_either plan c) (inl refl)
+  opening_either c = both_ways (λ n. (n ≡ initial_of plan c)
+      ⊎ (bound_of plan c ≡ Some n)) (is_eager plan c) (value_of plan c) (initial_of plan c) (value_either plan c) (inl refl)
 
   -- a word is the initial or the bound value
-  pub word_either : (es : List WorkerEvent) (c : ℕ) → (word_after plan es c ≡ initial_of plan c) ⊎ (bound_of plan c ≡ Some (word_after plan es c))
+  pub word_either : (es : List WorkerEvent) (c : ℕ)
+      → (word_after plan es c ≡ initial_of plan c) ⊎ (bound_of plan c ≡ Some (word_after plan es c))
   word_either [] c = opening_either c
   word_either (e ∷ es) c = by e.event (word_after plan es c) (word_either es c)
     where
-      by : (x : CellEvent) (n : ℕ) → (n ≡ initial_of plan c) ⊎ (bound_of plan c ≡ Some n) → (word_by plan x c n ≡ initial_of plan c) ⊎ (bound_of plan c ≡ Some (word_by plan x c n))
+      by : (x : CellEvent) (n : ℕ) → (n ≡ initial_of plan c) ⊎ (bound_of plan c ≡ Some n)
+          → (word_by plan x c n ≡ initial_of plan c) ⊎ (bound_of plan c ≡ Some (word_by plan x c n))
       by (Loaded d a) n h = h
-      by (Asked d) n h = both_ways (λ m. (m ≡ initial_of plan c) ⊎ (bound_of plan c ≡ Some m)) (c == d) (value_of plan c) n (value_either plan c) h
+      by (Asked d) n h = both_ways (λ m. (m ≡ initial_of plan c)
+          ⊎ (bound_of plan c ≡ Some m)) (c == d) (value_of plan c) n (value_either plan c) h
 
   -- a bound cell stays so
   pub bound_on : (x : CellEvent) (c n : ℕ) → bound_of plan c ≡ Some n → bound_of plan c ≡ Some (word_by plan x c n)
   bound_on (Loaded d a) c n h = h
-  bound_on (Asked d) c n h = both_ways (λ m. bound_of plan c ≡ Some m) (c == d) (value_of plan c) n (value_is plan c (can_from plan c n h)) h
+  bound_on (Asked d) c n h = both_ways (λ m. bound_of plan c ≡ Some m) (c == d) (value_of plan c) n (value_is plan c
+      (can_from plan c n h)) h
 
   pub asked_is_bound : (es : List WorkerEvent) → IsCore plan es → (c : ℕ) → In (asked_after plan es) c → IsBound plan es c
-  asked_is_bound [] k c i = let r = in_ready plan c i in subst (λ (b : Bool). bound_of plan c ≡ Some (if b then value_of plan c else initial_of plan c)) (sym r.0) (value_is plan c r.1)
+  asked_is_bound [] k c i = let r = in_ready plan c i in
+      subst (λ (b : Bool). bound_of plan c ≡ Some (if b then value_of plan c else initial_of plan c)) (sym r.0) (value_is plan c r.1)
   asked_is_bound (e ∷ es) k c i = by e.event k.0 i (λ j. asked_is_bound es k.1 c j)
     where
-      by : (x : CellEvent) → IsCoreEvent plan es x → In (asked_on x (asked_after plan es)) c → (In (asked_after plan es) c → IsBound plan es c) → bound_of plan c ≡ Some (word_by plan x c (word_after plan es c))
+      by : (x : CellEvent) → IsCoreEvent plan es x → In (asked_on x (asked_after plan es)) c → (In (asked_after plan es) c
+          → IsBound plan es c) → bound_of plan c ≡ Some (word_by plan x c (word_after plan es c))
       by (Loaded d a) can j before = before j
-      by (Asked d) can (inl q) before = where_equal (λ n. bound_of plan c ≡ Some n) c d (value_of plan c) (word_after plan es c) q (value_is plan c (subst (λ z. can_bind plan z ≡ true) (sym q) can))
+      by (Asked d) can (inl q) before = where_equal (λ n. bound_of plan c ≡ Some n) c d (value_of plan c) (word_after plan es c) q
+          (value_is plan c (subst (λ z. can_bind plan z ≡ true) (sym q) can))
       by (Asked d) can (inr j) before = bound_on (Asked d) c (word_after plan es c) (before j)
 
   -- a word that isn't the initial one was asked
   pub new_was_asked : (es : List WorkerEvent) (c : ℕ) → word_after plan es c ≢ initial_of plan c → In (asked_after plan es) c
   new_was_asked [] c n = by (is_eager plan c) refl n
     where
-      by : (b : Bool) → is_eager plan c ≡ b → (if b then value_of plan c else initial_of plan c) ≢ initial_of plan c → In (ready_cells plan) c
+      by : (b : Bool) → is_eager plan c ≡ b → (if b then value_of plan c else initial_of plan c) ≢ initial_of plan c
+          → In (ready_cells plan) c
       by true e m = ready_in plan c (e, can_from_other plan c m)
       by false e m = absurd (m refl)
   new_was_asked (e ∷ es) c n = by e.event n (λ m. new_was_asked es c m)
     where
-      by : (x : CellEvent) → word_by plan x c (word_after plan es c) ≢ initial_of plan c → (word_after plan es c ≢ initial_of plan c → In (asked_after plan es) c) → In (asked_on x (asked_after plan es)) c
+      by : (x : CellEvent) → word_by plan x c (word_after plan es c) ≢ initial_of plan c
+          → (word_after plan es c ≢ initial_of plan c → In (asked_after plan es) c) → In (asked_on x (asked_after plan es)) c
       by (Loaded d a) m before = before m
       by (Asked d) m before = dite (ℕ_discrete c d) (λ q. inl q)
           (λ other. inr (before (was_other (λ z. z ≢ initial_of plan c) c d (value_of plan c) (word_after plan es c) other m)))
@@ -84,11 +94,14 @@ module _ (plan : List CellPlan) where
   ready_was_asked (e ∷ es) c r = on_more e.event (asked_after plan es) c (ready_was_asked es c r)
 
   -- where a cell was asked, the cells before it are bound
-  pub first_is_bound : IsPlan plan → (es : List WorkerEvent) → AsksInOrder plan es → (c d : ℕ) → In (asked_after plan es) c → In (first_of plan c) d → IsBound plan es d
+  pub first_is_bound : IsPlan plan → (es : List WorkerEvent) → AsksInOrder plan es → (c d : ℕ) → In (asked_after plan es) c
+      → In (first_of plan c) d → IsBound plan es d
   first_is_bound sound [] o c d i f = absurd (eager_is_first plan sound c d (in_ready plan c i).0 f)
-  first_is_bound sound (e ∷ es) o c d i f = bound_on e.event d (word_after plan es d) (by e.event o.0 i (λ j. first_is_bound sound es o.1 c d j f))
+  first_is_bound sound (e ∷ es) o c d i f = bound_on e.event d (word_after plan es d) (by e.event o.0 i
+      (λ j. first_is_bound sound es o.1 c d j f))
     where
-      by : (x : CellEvent) → ComesAfterFirst plan es x → In (asked_on x (asked_after plan es)) c → (In (asked_after plan es) c → IsBound plan es d) → IsBound plan es d
+      by : (x : CellEvent) → ComesAfterFirst plan es x → In (asked_on x (asked_after plan es)) c → (In (asked_after plan es) c
+          → IsBound plan es d) → IsBound plan es d
       by (Loaded b a) h j before = before j
       by (Asked b) h (inl q) before = h d (subst (λ z. In (first_of plan z) d) q f)
       by (Asked b) h (inr j) before = before j
@@ -98,10 +111,12 @@ module _ (plan : List CellPlan) where
   new_answer es d a e is = new_was_asked es d (λ same. new_differs (bound_of plan d) a (initial_of plan d) e (is ∙ same))
 
   -- the cells that an event shows are bound
-  pub event_shows : IsPlan plan → (es : List WorkerEvent) → IsCore plan es → AsksInOrder plan es → (x : CellEvent) → IsCoreEvent plan es x → (c : ℕ) → In (shown_by plan x) c
+  pub event_shows : IsPlan plan → (es : List WorkerEvent) → IsCore plan es → AsksInOrder plan es → (x : CellEvent)
+      → IsCoreEvent plan es x → (c : ℕ) → In (shown_by plan x) c
       → bound_of plan c ≡ Some (word_by plan x c (word_after plan es c))
   event_shows sound es k o (Asked d) can c (inl q) =
-      where_equal (λ n. bound_of plan c ≡ Some n) c d (value_of plan c) (word_after plan es c) q (value_is plan c (subst (λ z. can_bind plan z ≡ true) (sym q) can))
+      where_equal (λ n. bound_of plan c ≡ Some n) c d (value_of plan c) (word_after plan es c) q (value_is plan c (subst
+      (λ z. can_bind plan z ≡ true) (sym q) can))
   event_shows sound es k o (Asked d) can c (inr i) = absurd i
   event_shows sound es k o (Loaded d a) is c i = by (is_new plan d a) refl i
     where
@@ -111,7 +126,8 @@ module _ (plan : List CellPlan) where
       by false e f = absurd f
 
   -- they were asked, where each cell was asked after those before it
-  pub event_shows_asked : (es : List WorkerEvent) → ((c d : ℕ) → In (asked_after plan es) c → In (first_of plan c) d → In (asked_after plan es) d)
+  pub event_shows_asked : (es : List WorkerEvent) → ((c d : ℕ) → In (asked_after plan es) c → In (first_of plan c) d
+      → In (asked_after plan es) d)
       → (x : CellEvent) → IsCoreEvent plan es x → (c : ℕ) → In (shown_by plan x) c → In (asked_on x (asked_after plan es)) c
   event_shows_asked es closed (Asked d) can c (inl q) = inl q
   event_shows_asked es closed (Asked d) can c (inr i) = absurd i
@@ -123,25 +139,31 @@ module _ (plan : List CellPlan) where
       by false e f = absurd f
 
   -- the cells that a worker's events show are bound
-  pub shown_is_bound : IsPlan plan → (es : List WorkerEvent) → IsCore plan es → AsksInOrder plan es → (w c : ℕ) → In (shown plan (of_worker w es)) c → IsBound plan es c
+  pub shown_is_bound : IsPlan plan → (es : List WorkerEvent) → IsCore plan es → AsksInOrder plan es → (w c : ℕ)
+      → In (shown plan (of_worker w es)) c → IsBound plan es c
   shown_is_bound sound [] k o w c i = absurd i
-  shown_is_bound sound (e ∷ es) k o w c i = by (e.worker == w) i (λ j. bound_on e.event c (word_after plan es c) (shown_is_bound sound es k.1 o.1 w c j))
+  shown_is_bound sound (e ∷ es) k o w c i = by (e.worker == w) i (λ j. bound_on e.event c (word_after plan es c)
+      (shown_is_bound sound es k.1 o.1 w c j))
     where
-      by : (b : Bool) → In (shown plan (if b then e.event ∷ of_worker w es else of_worker w es)) c → (In (shown plan (of_worker w es)) c → IsBound plan (e ∷ es) c) → IsBound plan (e ∷ es) c
+      by : (b : Bool) → In (shown plan (if b then e.event ∷ of_worker w es else of_worker w es)) c
+          → (In (shown plan (of_worker w es)) c → IsBound plan (e ∷ es) c) → IsBound plan (e ∷ es) c
       by false j before = before j
-      by true j before = ⊎_elim (λ s. event_shows sound es k.1 o.1 e.event k.0 c s) before (in_either (shown_by plan e.event) (shown plan (of_worker w es)) c j)
+      by true j before = ⊎_elim (λ s. event_shows sound es k.1 o.1 e.event k.0 c s) before (in_either (shown_by plan e.event)
+          (shown plan (of_worker w es)) c j)
 
   -- what a worker asked was asked
   pub own_was_asked : (es : List WorkerEvent) (w c : ℕ) → In (asks (of_worker w es)) c → In (asked_after plan es) c
   own_was_asked [] w c i = absurd i
   own_was_asked (e ∷ es) w c i = by (e.worker == w) i (λ j. own_was_asked es w c j)
     where
-      own : (x : CellEvent) → In (asks (x ∷ of_worker w es)) c → (In (asks (of_worker w es)) c → In (asked_after plan es) c) → In (asked_on x (asked_after plan es)) c
+      own : (x : CellEvent) → In (asks (x ∷ of_worker w es)) c → (In (asks (of_worker w es)) c → In (asked_after plan es) c)
+          → In (asked_on x (asked_after plan es)) c
       own (Loaded d a) j before = before j
       own (Asked d) (inl q) before = inl q
       own (Asked d) (inr j) before = inr (before j)
 
-      by : (b : Bool) → In (asks (if b then e.event ∷ of_worker w es else of_worker w es)) c → (In (asks (of_worker w es)) c → In (asked_after plan es) c) → In (asked_on e.event (asked_after plan es)) c
+      by : (b : Bool) → In (asks (if b then e.event ∷ of_worker w es else of_worker w es)) c → (In (asks (of_worker w es)) c
+          → In (asked_after plan es) c) → In (asked_on e.event (asked_after plan es)) c
       by false j before = on_more e.event (asked_after plan es) c (before j)
       by true j before = own e.event j before
 
@@ -160,7 +182,8 @@ module _ (plan : List CellPlan) where
 
   -- a word changes at most once, from its initial to its bound value
   pub changes_once : (es later : List WorkerEvent) (c : ℕ)
-      → (word_after plan (later ++ es) c ≡ word_after plan es c) ⊎ ((word_after plan es c ≡ initial_of plan c) × (bound_of plan c ≡ Some (word_after plan (later ++ es) c)))
+      → (word_after plan (later ++ es) c ≡ word_after plan es c) ⊎ ((word_after plan es c ≡ initial_of plan c)
+      × (bound_of plan c ≡ Some (word_after plan (later ++ es) c)))
   changes_once es [] c = inl refl
   changes_once es (e ∷ later) c = by e.event (word_after plan (later ++ es) c) (changes_once es later c)
     where

@@ -31,7 +31,8 @@ or_false : (b c : Bool) → c ≡ false → b ≡ (b || c)
 or_false true c e = refl
 or_false false c e = sym e
 
-pub unites_more : (old others : List Bool) (n : ℕ) (flags : List Bool) → n < length others → get_or others n false ≡ true → Unites old others n flags → Unites old others (n + 1) (set flags n true)
+pub unites_more : (old others : List Bool) (n : ℕ) (flags : List Bool) → n < length others → get_or others n false ≡ true
+    → Unites old others n flags → Unites old others (n + 1) (set flags n true)
 unites_more old others n flags inside e u = let count = u.count in record {
   count = length-set flags n true ∙ count;
   done = λ c h. dite (ℕ_discrete c n)
@@ -41,11 +42,13 @@ unites_more old others n flags inside e u = let count = u.count in record {
   left = λ c h. get_or-set_other flags n c true false (λ e. omega arith) ∙ u.left c (omega arith);
 }
 
-pub unites_other : (old others : List Bool) (n : ℕ) (flags : List Bool) → get_or others n false ≡ false → Unites old others n flags → Unites old others (n + 1) flags
+pub unites_other : (old others : List Bool) (n : ℕ) (flags : List Bool) → get_or others n false ≡ false
+    → Unites old others n flags → Unites old others (n + 1) flags
 unites_other old others n flags e u = record {
   count = u.count;
   done = λ c h. dite (ℕ_discrete c n)
-      (λ same. subst (λ k. get_or flags k false ≡ (get_or old k false || get_or others k false)) (sym same) (u.left n (omega arith) ∙ or_false (get_or old n false) (get_or others n false) e))
+      (λ same. subst (λ k. get_or flags k false ≡ (get_or old k false || get_or others k false)) (sym same) (u.left n
+      (omega arith) ∙ or_false (get_or old n false) (get_or others n false) e))
       (λ other. u.done c (omega arith));
   left = λ c h. u.left c (omega arith);
 }
@@ -65,12 +68,15 @@ or_right true b e = refl
 or_right false b e = e
 
 pub remembers_both : (flags old others : List Bool) (v u : SeatView) → length flags ≡ length old → u.plan ≡ v.plan
-    → ((c : ℕ) → c < length others → get_or flags c false ≡ (get_or old c false || get_or others c false)) → Remembers old v → Remembers others u → Remembers flags (joined v u)
+    → ((c : ℕ) → c < length others → get_or flags c false ≡ (get_or old c false || get_or others c false)) → Remembers old v
+    → Remembers others u → Remembers flags (joined v u)
 remembers_both flags old others v u same p united r q = let count = r.count in let more = q.count in let lengths = ap length p in record {
   count = same ∙ count;
   each = λ c h. let is = united c (omega arith) in let h' : c < length u.plan = omega arith in (
-    (λ e. ⊎_elim (λ a. in_front v.asked u.asked c ((r.each c h).0 a)) (λ b. in_back v.asked u.asked c ((q.each c h').0 b)) (or_either (get_or old c false) (get_or others c false) (sym is ∙ e))),
-    λ i. is ∙ ⊎_elim (λ j. or_left (get_or old c false) (get_or others c false) ((r.each c h).1 j)) (λ j. or_right (get_or old c false) (get_or others c false) ((q.each c h').1 j)) (in_either v.asked u.asked c i),
+    (λ e. ⊎_elim (λ a. in_front v.asked u.asked c ((r.each c h).0 a)) (λ b. in_back v.asked u.asked c ((q.each c h').0 b))
+        (or_either (get_or old c false) (get_or others c false) (sym is ∙ e))),
+    λ i. is ∙ ⊎_elim (λ j. or_left (get_or old c false) (get_or others c false) ((r.each c h).1 j)) (λ j. or_right
+        (get_or old c false) (get_or others c false) ((q.each c h').1 j)) (in_either v.asked u.asked c i),
   );
 }
 
@@ -94,6 +100,8 @@ module _ (flags : List Bool) (v : SeatView) (r : Run v) (kept : Remembers flags 
   pub set_where_ready : (plan : List CellPlan) → v.plan ≡ plan → (c : ℕ) → IsReady plan c → get_or flags c false ≡ true
   set_where_ready plan e c i = set_where_asked c (ready_was_asked v.plan r.events c (subst (λ (p : List CellPlan). IsReady p c) (sym e) i))
 
-  pub set_exactly : (plan : List CellPlan) → v.plan ≡ plan → (c : ℕ) → c < length plan → (get_or flags c false ≡ true) ↔ In (asked_after plan r.events) c
-  set_exactly plan e = subst (λ (p : List CellPlan). (c : ℕ) → c < length p → (get_or flags c false ≡ true) ↔ In (asked_after p r.events) c) e
+  pub set_exactly : (plan : List CellPlan) → v.plan ≡ plan → (c : ℕ) → c < length plan
+      → (get_or flags c false ≡ true) ↔ In (asked_after plan r.events) c
+  set_exactly plan e = subst (λ (p : List CellPlan). (c : ℕ) → c < length p
+      → (get_or flags c false ≡ true) ↔ In (asked_after p r.events) c) e
       (λ c h. ((λ s. r.asked c ((kept.each c h).0 s)), set_where_asked c))

@@ -55,17 +55,20 @@ ready_has n (p ∷ ps) c i = by (is_ready p) refl i (λ j. ready_has (n + 1) ps 
     further : IsReadyFrom (n + 1) ps c → IsReadyFrom n (p ∷ ps) c
     further r = let e : c ≡ (n + 1) + r.0 = r.1 in (suc r.0, omega arith, r.2)
 
-    by : (b : Bool) → is_ready p ≡ b → In (if b then n ∷ ready_from (n + 1) ps else ready_from (n + 1) ps) c → (In (ready_from (n + 1) ps) c → IsReadyFrom (n + 1) ps c) → IsReadyFrom n (p ∷ ps) c
+    by : (b : Bool) → is_ready p ≡ b → In (if b then n ∷ ready_from (n + 1) ps else ready_from (n + 1) ps) c
+        → (In (ready_from (n + 1) ps) c → IsReadyFrom (n + 1) ps c) → IsReadyFrom n (p ∷ ps) c
     by true e (inl q) later = (zero, omega arith, e)
     by true e (inr j) later = further (later j)
     by false e j later = further (later j)
 
 ready_put : (n : ℕ) (ps : List CellPlan) (k : ℕ) → ready_there (slice_get ps k) ≡ true → In (ready_from n ps) (n + k)
 ready_put n [] k e = cc
-ready_put n (p ∷ ps) zero e = subst (λ (b : Bool). In (if b then n ∷ ready_from (n + 1) ps else ready_from (n + 1) ps) (n + zero)) (sym e) (inl (omega arith))
+ready_put n (p ∷ ps) zero e = subst (λ (b : Bool). In (if b then n ∷ ready_from (n + 1) ps else ready_from (n + 1) ps) (n + zero))
+    (sym e) (inl (omega arith))
 ready_put n (p ∷ ps) (suc k) e = by (is_ready p) (subst (In (ready_from (n + 1) ps)) (omega arith) (ready_put (n + 1) ps k e))
   where
-    by : (b : Bool) → In (ready_from (n + 1) ps) (n + suc k) → In (if b then n ∷ ready_from (n + 1) ps else ready_from (n + 1) ps) (n + suc k)
+    by : (b : Bool) → In (ready_from (n + 1) ps) (n + suc k)
+        → In (if b then n ∷ ready_from (n + 1) ps else ready_from (n + 1) ps) (n + suc k)
     by true i = inr i
     by false i = i
 
@@ -86,19 +89,25 @@ module _ (plan : List CellPlan) where
   can_from_other c n = other_value (bound_of plan c) (initial_of plan c) n
 
   pub ready_in : (c : ℕ) → IsReady plan c → In (ready_cells plan) c
-  ready_in c r = let i = ready_put zero plan c (is_ready_there (slice_get plan c) r.0 r.1) in subst (In (ready_from zero plan)) (omega arith) i
+  ready_in c r = let i = ready_put zero plan c (is_ready_there (slice_get plan c) r.0 r.1) in
+      subst (In (ready_from zero plan)) (omega arith) i
 
   pub in_ready : (c : ℕ) → In (ready_cells plan) c → IsReady plan c
-  in_ready c i = let r = ready_has zero plan c i in let e : c ≡ zero + r.0 = r.1 in let same : r.0 ≡ c = omega arith in subst (IsReady plan) same (there_is_ready (slice_get plan r.0) r.2)
+  in_ready c i = let r = ready_has zero plan c i in let e : c ≡ zero + r.0 = r.1 in let same : r.0 ≡ c = omega arith in
+      subst (IsReady plan) same (there_is_ready (slice_get plan r.0) r.2)
 
   each_sound : IsPlan plan → (c d : ℕ) → In (first_of plan c) d → (can_bind plan d ≡ true) × (is_eager plan c ≡ true → ⊥)
   each_sound sound c d i = ⊎_elim at_cell past (slice_get_cases plan c).1
     where
-      at_cell : (p : CellPlan) × (c < length plan) × (slice_get plan c ≡ Some p) × (get_or plan c p ≡ p) → (can_bind plan d ≡ true) × (is_eager plan c ≡ true → ⊥)
+      at_cell : (p : CellPlan) × (c < length plan) × (slice_get plan c ≡ Some p) × (get_or plan c p ≡ p)
+          → (can_bind plan d ≡ true) × (is_eager plan c ≡ true → ⊥)
       at_cell t =
           let one = subst (IsSound plan) t.3 (sound.each c t.0 t.1) in
-          let j = subst (λ (o : Option CellPlan). In (first_in o) d) t.2 i in
-          (in_all (λ x. can_bind plan x ≡ true) t.0.first d one.0 j, λ e. subst (λ (l : List ℕ). In l d) (one.1 (sym (ap eager_in t.2) ∙ e)) j)
+          let j = subst (λ (o : Option CellPlan). In (first_in o) d) t.2 i in (
+            in_all (λ x. can_bind plan x ≡ true) t.0.first d one.0 j,
+            λ e. subst (λ (l : List ℕ). In l d) (one.1 (sym
+                (ap eager_in t.2) ∙ e)) j,
+          )
 
       past : (length plan ≤ c) × (slice_get plan c ≡ None) → (can_bind plan d ≡ true) × (is_eager plan c ≡ true → ⊥)
       past t = absurd (subst (λ (o : Option CellPlan). In (first_in o) d) t.1 i)
@@ -111,13 +120,16 @@ module _ (plan : List CellPlan) where
 
   pub bindable_inside : (c : ℕ) → can_bind plan c ≡ true → c < length plan
   bindable_inside c e = ⊎_elim (λ (t : (p : CellPlan) × (c < length plan) × (slice_get plan c ≡ Some p) × (get_or plan c p ≡ p)). t.1)
-      (λ (t : (length plan ≤ c) × (slice_get plan c ≡ None)). let f : false ≡ true = sym (ap (λ (o : Option CellPlan). is_some (bound_in o)) t.1) ∙ e in cc) (slice_get_cases plan c).1
+      (λ (t : (length plan ≤ c)
+      × (slice_get plan c ≡ None)). let f : false ≡ true = sym (ap (λ (o : Option CellPlan). is_some (bound_in o)) t.1) ∙ e in
+      cc) (slice_get_cases plan c).1
 
   pub opening_at : (c : ℕ) → c < length plan → get_or (0 ∷ map opening_in plan) (c + 1) 0 ≡ opening_of plan c
   opening_at c inside = rw add-one (mapped plan c inside)
     where
       mapped : (ps : List CellPlan) (k : ℕ) → k < length ps → get_or (map opening_in ps) k 0
-          ≡ (if eager_in (slice_get ps k) then unwrap_or (bound_in (slice_get ps k)) (initial_in (slice_get ps k)) else initial_in (slice_get ps k))
+          ≡ (if eager_in (slice_get ps k) then unwrap_or (bound_in (slice_get ps k)) (initial_in (slice_get ps k)) else initial_in
+          (slice_get ps k))
       mapped [] k h = absurd (omega arith)
       mapped (p ∷ ps) zero h = refl
       mapped (p ∷ ps) (suc k) h = mapped ps k (omega arith)
@@ -135,6 +147,7 @@ module _ (plan : List CellPlan) where
       mapped (p ∷ ps) (suc k) i = mapped ps k (omega arith)
 
 -- a cell's initial value as it is read from a copy of the plan
-pub initial_read : (plan key : List CellPlan) (c : ℕ) (p : CellPlan) → key ≡ plan → c < length plan → p ≡ get_or plan c p → p.initial ≡ initial_of key c
+pub initial_read : (plan key : List CellPlan) (c : ℕ) (p : CellPlan) → key ≡ plan → c < length plan → p ≡ get_or plan c p
+    → p.initial ≡ initial_of key c
 initial_read plan key c p same inside read =
     ap initial_in (sym (slice_get_read plan (length plan) c p refl inside read)) ∙ ap (λ (l : List CellPlan). initial_of l c) (sym same)

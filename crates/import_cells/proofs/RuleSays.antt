@@ -21,7 +21,8 @@ module _ (plan : List CellPlan) (s : State (Unit {0}) SeatView) (r : Kept plan s
 
   pub says : Parts plan s
   says = record {
-    word = λ c inside. subst (λ n. (n ≡ initial_of plan c) ⊎ (bound_of plan c ≡ Some n)) (sym (r.words c inside)) (word_either plan r.events c);
+    word = λ c inside. subst (λ n. (n ≡ initial_of plan c)
+        ⊎ (bound_of plan c ≡ Some n)) (sym (r.words c inside)) (word_either plan r.events c);
     bound = λ id c v at i. holds_bound c (⊎_elim (λ j. (r.views id v at).asked c j) (λ j. (r.views id v at).seen c j) i);
     new = λ c inside n. r.askers c (was_asked c inside n);
     ready = λ c e. r.askers c (ready_was_asked plan r.events c e);

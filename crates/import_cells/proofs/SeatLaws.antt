@@ -1,5 +1,5 @@
 -- What a seat knows after its calls, and that their answers are allowed.
-use Rattle.std.proofs.Common.{◌≡◌, ℕ, ◌+◌, ◌-◌, ◌⊎◌, inl, inr, ⊎_elim, true, false, arith, List, [], ◌∷◌, Some, sym, refl, ap, ◌∙◌, subst}
+use Rattle.std.proofs.Common.{◌≡◌, ℕ, ◌+◌, ◌-◌, ◌++◌, ◌↔◌, ◌⊎◌, inl, inr, ⊎_elim, true, false, arith, List, [], ◌∷◌, Some, sym, refl, ap, ◌∙◌, subst}
 use mathlib.Core.Logic.{dite}
 use native.Mathlib.Decide.{ℕ_discrete}
 use Rattle.import_cells.specs.declared.plan.CellPlan.{CellPlan}
@@ -12,54 +12,69 @@ use Rattle.import_cells.specs.Seats.{after_event, after_events, Run, IsNext, Ans
 use Rattle.import_cells.specs.Laws.{Knows, Replies, Called, BeginsAlone, FirstSeat}
 use Rattle.import_cells.proofs.Plans.{in_ready, ready_in}
 use Rattle.import_cells.proofs.Lists.{in_front, in_back, in_either}
-use Rattle.import_cells.proofs.CoreLaws.{on_more, on_new, on_either, word_either, asked_is_bound, new_was_asked, ready_was_asked}
+use Rattle.import_cells.proofs.CoreLaws.{word_either, asked_is_bound, new_was_asked, ready_was_asked}
 
 -- the answer of a load that is the core's next event
 pub next_answer : (v : SeatView) (c a : ℕ) → IsNext v (Loaded c a) → Answer v c a
 next_answer v c a next =
     let r : Run v = next.0 in
     let is : a ≡ word_after v.plan r.events c = next.1 in
-    let bound = λ (i : In (asked_after v.plan r.events) c). subst (λ n. bound_of v.plan c ≡ Some n) (sym is) (asked_is_bound v.plan r.events r.core c i) in
+    let bound = λ (i : In (asked_after v.plan r.events) c).
+    subst (λ n. bound_of v.plan c ≡ Some n) (sym is) (asked_is_bound v.plan r.events r.core c i) in
     record {
       word = subst (λ n. (n ≡ initial_of v.plan c) ⊎ (bound_of v.plan c ≡ Some n)) (sym is) (word_either v.plan r.events c);
       ready = λ e. bound (ready_was_asked v.plan r.events c e);
       known = λ k. bound (⊎_elim (λ i. r.asked c i) (λ i. r.seen c i) k);
-      alone = λ all no. is ∙ dite (ℕ_discrete (word_after v.plan r.events c) (initial_of v.plan c)) (λ e. e) (λ n. absurd (no (r.alone all c (new_was_asked v.plan r.events c n))));
+      alone = λ all no. is ∙ dite (ℕ_discrete (word_after v.plan r.events c) (initial_of v.plan c)) (λ e. e)
+          (λ n. absurd (no (r.alone all c (new_was_asked v.plan r.events c n))));
     }
 
-asks_on : (x : CellEvent) (l : List CellEvent) (c : ℕ) → In (asked_on x []) c ⊎ In (asks l) c → In (asks (x ∷ l)) c
-asks_on (Loaded d a) l c (inl i) = absurd i
-asks_on (Loaded d a) l c (inr i) = i
-asks_on (Asked d) l c (inl (inl e)) = inl e
-asks_on (Asked d) l c (inl (inr i)) = absurd i
-asks_on (Asked d) l c (inr i) = inr i
+-- one event more, for the cells that were asked
+step_asked : (x : CellEvent) (l : List CellEvent) (was mine : List ℕ) (c : ℕ) → In mine c ↔ (In (asks l) c ⊎ In was c)
+    → In (asked_on x mine) c ↔ (In (asks (x ∷ l)) c ⊎ In was c)
+step_asked (Loaded d a) l was mine c h = h
+step_asked (Asked d) l was mine c h = (there, back)
+  where
+    there : (c ≡ d) ⊎ In mine c → ((c ≡ d) ⊎ In (asks l) c) ⊎ In was c
+    there (inl e) = inl (inl e)
+    there (inr i) = ⊎_elim (λ q. inl (inr q)) (λ q. inr q) (h.0 i)
 
-asks_either : (x : CellEvent) (l : List CellEvent) (c : ℕ) → In (asks (x ∷ l)) c → In (asked_on x []) c ⊎ In (asks l) c
-asks_either (Loaded d a) l c i = inr i
-asks_either (Asked d) l c (inl e) = inl (inl e)
-asks_either (Asked d) l c (inr i) = inr i
+    back : ((c ≡ d) ⊎ In (asks l) c) ⊎ In was c → (c ≡ d) ⊎ In mine c
+    back (inl (inl e)) = inl e
+    back (inl (inr q)) = inr (h.1 (inl q))
+    back (inr q) = inr (h.1 (inr q))
+
+-- the same for the cells xs that it shows
+step_seen : (xs ys was mine : List ℕ) (c : ℕ) → In mine c ↔ (In ys c ⊎ In was c) → In (xs ++ mine) c ↔ (In (xs ++ ys) c ⊎ In was c)
+step_seen xs ys was mine c h = (λ i. there (in_either xs mine c i), back)
+  where
+    there : In xs c ⊎ In mine c → In (xs ++ ys) c ⊎ In was c
+    there (inl i) = inl (in_front xs ys c i)
+    there (inr i) = ⊎_elim (λ q. inl (in_back xs ys c q)) (λ q. inr q) (h.0 i)
+
+    either : In xs c ⊎ In ys c → In (xs ++ mine) c
+    either (inl i) = in_front xs mine c i
+    either (inr i) = in_back xs mine c (h.1 (inl i))
+
+    back : In (xs ++ ys) c ⊎ In was c → In (xs ++ mine) c
+    back (inl i) = either (in_either xs ys c i)
+    back (inr i) = in_back xs mine c (h.1 (inr i))
+
+none_more : (was : List ℕ) (c : ℕ) → In was c ↔ (In [] c ⊎ In was c)
+none_more was c = (λ i. inr i, λ e. ⊎_elim (λ i. absurd i) (λ i. i) e)
 
 pub knows : (v : SeatView) (l : List CellEvent) → Knows v l (after_events v l)
-knows v [] = record { plan = refl; share = refl; log = refl; asked = λ c. (λ i. inr i, λ e. ⊎_elim (λ i. absurd i) (λ i. i) e); seen = λ c. (λ i. inr i, λ e. ⊎_elim (λ i. absurd i) (λ i. i) e) }
-knows v (x ∷ l) = more (knows v l)
+knows v [] = record { plan = refl; share = refl; log = refl; asked = none_more v.asked; seen = none_more v.seen }
+knows v (x ∷ l) = more (after_events v l) (knows v l)
   where
-    more : Knows v l (after_events v l) → Knows v (x ∷ l) (after_events v (x ∷ l))
-    more k = record {
+    more : (m : SeatView) → Knows v l m → Knows v (x ∷ l) (after_event m x)
+    more m k = record {
       plan = k.plan;
       share = k.share;
       log = ap (λ (z : List CellEvent). x ∷ z) k.log;
-      asked = λ c. (
-        (λ i. ⊎_elim (λ j. inl (asks_on x l c (inl j))) (λ j. ⊎_elim (λ q. inl (asks_on x l c (inr q))) (λ q. inr q) ((k.asked c).0 j)) (on_either x (after_events v l).asked c i)),
-        λ e. ⊎_elim (λ i. ⊎_elim (λ j. on_new x (after_events v l).asked c j) (λ j. on_more x (after_events v l).asked c ((k.asked c).1 (inl j))) (asks_either x l c i)) (λ i. on_more x (after_events v l).asked c ((k.asked c).1 (inr i))) e,
-      );
-      seen = λ c. (
-        (λ i. ⊎_elim (λ j. inl (in_front (shown_by v.plan x) (shown v.plan l) c (subst (λ (p : List CellPlan). In (shown_by p x) c) k.plan j)))
-            (λ j. ⊎_elim (λ q. inl (in_back (shown_by v.plan x) (shown v.plan l) c q)) (λ q. inr q) ((k.seen c).0 j)) (in_either (shown_by (after_events v l).plan x) (after_events v l).seen c i)),
-        λ e. ⊎_elim
-            (λ i. ⊎_elim (λ j. in_front (shown_by (after_events v l).plan x) (after_events v l).seen c (subst (λ (p : List CellPlan). In (shown_by p x) c) (sym k.plan) j))
-            (λ j. in_back (shown_by (after_events v l).plan x) (after_events v l).seen c ((k.seen c).1 (inl j))) (in_either (shown_by v.plan x) (shown v.plan l) c i))
-            (λ i. in_back (shown_by (after_events v l).plan x) (after_events v l).seen c ((k.seen c).1 (inr i))) e,
-      );
+      asked = λ c. step_asked x l v.asked m.asked c (k.asked c);
+      seen = λ c. subst (λ (p : List CellPlan). In (shown_by p x ++ m.seen) c ↔ (In (shown_by v.plan x ++ shown v.plan l) c ⊎ In v.seen c))
+          (sym k.plan) (step_seen (shown_by v.plan x) (shown v.plan l) v.seen m.seen c (k.seen c));
     }
 
 pub called : (v : SeatView) (l : List CellEvent) (v' : SeatView) → Called v l v' → v' ≡ after_events v l

@@ -5,7 +5,8 @@ use Rattle.std.proofs.lemmas.Option.{slice_get_read}
 use Rattle.import_cells.specs.declared.plan.CellPlan.{CellPlan}
 use Rattle.import_cells.specs.Plan.{In, first_in, first_of}
 
-first_read : (plan key : List CellPlan) (c : ℕ) (p : CellPlan) → plan ≡ key → c < length plan → p ≡ get_or plan c p → first_of key c ≡ p.first
+first_read : (plan key : List CellPlan) (c : ℕ) (p : CellPlan) → plan ≡ key → c < length plan → p ≡ get_or plan c p
+    → first_of key c ≡ p.first
 first_read plan key c p same inside read =
     ap (λ (l : List CellPlan). first_of l c) (sym same) ∙ ap first_in (slice_get_read plan (length plan) c p refl inside read)
 
@@ -13,8 +14,10 @@ none_in : (l : List ℕ) (d : ℕ) → (length l == 0) ≡ true → In l d → �
 none_in [] d e i = i
 none_in (x ∷ xs) d e i = let z : length (x ∷ xs) ≡ 0 = eqb-true (length (x ∷ xs)) 0 e in absurd (omega arith)
 
-pub no_first : (plan key : List CellPlan) (c d : ℕ) (p : CellPlan) (l : List ℕ) → plan ≡ key → c < length plan → p ≡ get_or plan c p → l ≡ p.first → (length l == 0) ≡ true → In (first_of key c) d → ⊥
-no_first plan key c d p l same inside read is empty i = none_in l d empty (subst (λ (m : List ℕ). In m d) (first_read plan key c p same inside read ∙ sym is) i)
+pub no_first : (plan key : List CellPlan) (c d : ℕ) (p : CellPlan) (l : List ℕ) → plan ≡ key → c < length plan
+    → p ≡ get_or plan c p → l ≡ p.first → (length l == 0) ≡ true → In (first_of key c) d → ⊥
+no_first plan key c d p l same inside read is empty i = none_in l d empty (subst (λ (m : List ℕ). In m d)
+    (first_read plan key c p same inside read ∙ sym is) i)
 
 two_in : (l : List ℕ) (d : ℕ) → 2 ≤ length l → length l < 3 → In l d → (d ≡ get_or l 0 0) ⊎ (d ≡ get_or l 1 0)
 two_in [] d more less i = absurd i
@@ -24,9 +27,11 @@ two_in (x ∷ y ∷ []) d more less (inr (inl e)) = inr e
 two_in (x ∷ y ∷ []) d more less (inr (inr i)) = absurd i
 two_in (x ∷ y ∷ z ∷ zs) d more less i = absurd (omega arith)
 
-pub two_first : (plan key : List CellPlan) (c d : ℕ) (p : CellPlan) (l : List ℕ) → plan ≡ key → c < length plan → p ≡ get_or plan c p → l ≡ p.first → 2 ≤ length l → length l < 3 → In (first_of key c) d
+pub two_first : (plan key : List CellPlan) (c d : ℕ) (p : CellPlan) (l : List ℕ) → plan ≡ key → c < length plan
+    → p ≡ get_or plan c p → l ≡ p.first → 2 ≤ length l → length l < 3 → In (first_of key c) d
     → (d ≡ get_or l 0 0) ⊎ (d ≡ get_or l 1 0)
-two_first plan key c d p l same inside read is more less i = two_in l d more less (subst (λ (m : List ℕ). In m d) (first_read plan key c p same inside read ∙ sym is) i)
+two_first plan key c d p l same inside read is more less i = two_in l d more less (subst (λ (m : List ℕ). In m d)
+    (first_read plan key c p same inside read ∙ sym is) i)
 
 some_power : (n : ℕ) → 1 ≤ 2 ^ n
 some_power zero = omega arith

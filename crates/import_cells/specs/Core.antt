@@ -4,7 +4,7 @@ use Rattle.std.specs.Prelude.{◌≡◌, ℕ, ◌⊎◌, ◌==◌, ◌&&◌, not
 use Rattle.import_cells.specs.declared.plan.CellPlan.{CellPlan}
 use Rattle.import_cells.specs.declared.event.CellEvent.{CellEvent}
 use Rattle.import_cells.specs.declared.event.CellEvent.TheVariants.{Loaded, Asked}
-use Rattle.import_cells.specs.Plan.{In, initial_of, bound_of, is_eager, first_of, can_bind, IsReady, ready_cells}
+use Rattle.import_cells.specs.Plan.{In, initial_of, bound_of, is_eager, first_of, IsWordOf, can_bind, IsReady, ready_cells}
 
 pub record WorkerEvent : Type 0 where
   pub worker : ℕ
@@ -110,7 +110,7 @@ module _ (plan : List CellPlan) where
   -- The four parts, of a load's answer after the worker's events l. `quiet` says that nobody else asked a cell that isn't eager
   pub record AllowedAnswer (quiet : Type 0) (l : List CellEvent) (c a : ℕ) : Type 0 where
     -- the answer is the initial or the bound value
-    pub word : (a ≡ initial_of plan c) ⊎ (bound_of plan c ≡ Some a)
+    pub word : IsWordOf plan c a
     -- it is the bound value of an eager cell that has one
     pub ready : IsReady plan c → bound_of plan c ≡ Some a
     -- after an ask or a new answer of the cell, or a new answer of a cell that comes after it, it is the bound value

@@ -5,14 +5,15 @@ use Rattle.import_cells.specs.declared.plan.CellPlan.{CellPlan}
 use Rattle.import_cells.specs.declared.event.CellEvent.{CellEvent}
 use Rattle.import_cells.specs.declared.event.CellEvent.TheVariants.{Loaded, Asked}
 use Rattle.import_cells.specs.declared.event.SeatView.{SeatView}
-use Rattle.import_cells.specs.Plan.{In, initial_of, bound_of, is_eager, first_of, IsReady, IsPlan}
+use Rattle.import_cells.specs.Plan.{In, initial_of, bound_of, is_eager, first_of, IsWordOf, IsReady, IsPlan}
 use Rattle.import_cells.specs.Core.{WorkerEvent, of_worker, word_after, IsBound, IsCore, AsksInOrder, EachAsksFirst, asks, shown, Allowed, Quiet}
 use Rattle.import_cells.specs.Seats.{whole, first_view, after_event, after_events, IsNext, Answer}
 use Rattle.import_cells.specs.Shared.{Kept, Parts}
 
 -- the answers of each worker are allowed
 abbrev pub EachIsAllowed : Type 0
-EachIsAllowed = (plan : List CellPlan) → IsPlan plan → (es : List WorkerEvent) → IsCore plan es → AsksInOrder plan es → (w : ℕ) → Allowed plan (Quiet plan w es) (of_worker w es)
+EachIsAllowed = (plan : List CellPlan) → IsPlan plan → (es : List WorkerEvent) → IsCore plan es → AsksInOrder plan es → (w : ℕ)
+    → Allowed plan (Quiet plan w es) (of_worker w es)
 
 -- where each worker asks the cells before a cell itself, they are bound when that one is asked
 abbrev pub OwnAsksAreInOrder : Type 0
@@ -20,13 +21,15 @@ OwnAsksAreInOrder = (plan : List CellPlan) (es : List WorkerEvent) → IsCore pl
 
 -- a word is its initial or its bound value
 abbrev pub IsInitialOrBound : Type 0
-IsInitialOrBound = (plan : List CellPlan) (es : List WorkerEvent) (c : ℕ) → (word_after plan es c ≡ initial_of plan c) ⊎ (bound_of plan c ≡ Some (word_after plan es c))
+IsInitialOrBound = (plan : List CellPlan) (es : List WorkerEvent) (c : ℕ)
+    → IsWordOf plan c (word_after plan es c)
 
 -- between two moments a word stays, or goes from its initial to its bound value
 abbrev pub ChangesOnce : Type 0
 ChangesOnce =
     (plan : List CellPlan) (es later : List WorkerEvent) (c : ℕ)
-    → (word_after plan (later ++ es) c ≡ word_after plan es c) ⊎ ((word_after plan es c ≡ initial_of plan c) × (bound_of plan c ≡ Some (word_after plan (later ++ es) c)))
+    → (word_after plan (later ++ es) c ≡ word_after plan es c) ⊎ ((word_after plan es c ≡ initial_of plan c)
+    × (bound_of plan c ≡ Some (word_after plan (later ++ es) c)))
 
 -- a bound cell stays so
 abbrev pub StaysBound : Type 0
@@ -73,7 +76,8 @@ FirstSeat = (plan : List CellPlan) → BeginsAlone (first_view plan) × ((c : �
 
 -- the answers to one seat are allowed
 abbrev pub SeatIsAllowed : Type 0
-SeatIsAllowed = (v : SeatView) (l : List CellEvent) (v' : SeatView) → Called v l v' → (v' ≡ after_events v l) × Allowed v.plan (BeginsAlone v) l
+SeatIsAllowed = (v : SeatView) (l : List CellEvent) (v' : SeatView) → Called v l v'
+    → (v' ≡ after_events v l) × Allowed v.plan (BeginsAlone v) l
 
 -- a load that is the core's next event has such an answer
 abbrev pub NextAnswers : Type 0

@@ -53,6 +53,10 @@ module _ (plan : List CellPlan) where
   abbrev pub first_of : ℕ → List ℕ
   first_of c = first_in (slice_get plan c)
 
+  -- the number is the initial or the bound value of the cell
+  abbrev pub IsWordOf : ℕ → ℕ → Type 0
+  IsWordOf c n = (n ≡ initial_of c) ⊎ (bound_of c ≡ Some n)
+
   -- the cell has a bound value
   abbrev pub can_bind : ℕ → Bool
   can_bind c = is_some (bound_of c)

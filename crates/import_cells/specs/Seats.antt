@@ -4,7 +4,7 @@ use Rattle.atomic_table.specs.Seated.{TableId}
 use Rattle.import_cells.specs.declared.plan.CellPlan.{CellPlan}
 use Rattle.import_cells.specs.declared.event.CellEvent.{CellEvent}
 use Rattle.import_cells.specs.declared.event.SeatView.{SeatView}
-use Rattle.import_cells.specs.Plan.{In, initial_of, bound_of, first_of, IsReady, ready_cells}
+use Rattle.import_cells.specs.Plan.{In, initial_of, bound_of, first_of, IsWordOf, IsReady, ready_cells}
 use Rattle.import_cells.specs.Core.{WorkerEvent, of_worker, asked_on, asked_after, shown_by, IsCore, IsCoreEvent, AsksInOrder, ComesAfterFirst}
 
 -- the cells: which ones they are, and their plan
@@ -95,7 +95,7 @@ IsNext v e = (r : Run v) × IsCoreEvent v.plan r.events e × ComesAfterFirst v.p
 -- what a load's answer is to the seat that made it
 pub record Answer (v : SeatView) (c a : ℕ) : Type 0 where
   -- the initial or the bound value
-  pub word : (a ≡ initial_of v.plan c) ⊎ (bound_of v.plan c ≡ Some a)
+  pub word : IsWordOf v.plan c a
   -- the bound value of an eager cell that has one
   pub ready : IsReady v.plan c → bound_of v.plan c ≡ Some a
   -- the bound value of a cell that the seat has asked or seen

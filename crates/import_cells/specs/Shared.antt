@@ -6,7 +6,7 @@ use Rattle.atomic_table.specs.Table.{State, Me, Step}
 use Rattle.import_cells.specs.declared.plan.CellPlan.{CellPlan}
 use Rattle.import_cells.specs.declared.event.CellEvent.TheVariants.{Loaded, Asked}
 use Rattle.import_cells.specs.declared.event.SeatView.{SeatView}
-use Rattle.import_cells.specs.Plan.{In, initial_of, bound_of, first_of, IsReady, IsPlan}
+use Rattle.import_cells.specs.Plan.{In, initial_of, bound_of, first_of, IsReady, IsPlan, IsWordOf}
 use Rattle.import_cells.specs.Core.{WorkerEvent, of_worker, word_after, asked_after, IsCore, AsksInOrder}
 use Rattle.import_cells.specs.Seats.{whole, after_event, IsNext}
 
@@ -46,9 +46,11 @@ pub record Kept (plan : List CellPlan) (s : State (Unit {0}) SeatView) : Type 0 
 -- What the rule says of the words and the views, with no list of events
 pub record Parts (plan : List CellPlan) (s : State (Unit {0}) SeatView) : Type 0 where
   -- each word is its initial or its bound value
-  pub word : (c : ℕ) → c < length plan → (slice_index s.words (c + 1) ≡ initial_of plan c) ⊎ (bound_of plan c ≡ Some (slice_index s.words (c + 1)))
+  pub word : (c : ℕ) → c < length plan
+      → IsWordOf plan c (slice_index s.words (c + 1))
   -- each cell that a view has asked or seen has its bound value
-  pub bound : (id c : ℕ) (v : SeatView) → get_elem? s.views id ≡ some v → In v.asked c ⊎ In v.seen c → bound_of plan c ≡ Some (slice_index s.words (c + 1))
+  pub bound : (id c : ℕ) (v : SeatView) → get_elem? s.views id ≡ some v → In v.asked c ⊎ In v.seen c
+      → bound_of plan c ≡ Some (slice_index s.words (c + 1))
   -- a cell whose word is new, that is bound from the start, or that some view has seen, is in the asked of some view
   pub new : (c : ℕ) → c < length plan → slice_index s.words (c + 1) ≢ initial_of plan c → AskedBySome s.views c
   pub ready : (c : ℕ) → IsReady plan c → AskedBySome s.views c

@@ -9,5 +9,9 @@ split-requires-clause-share t c = (halves c.args.splits _ (search rules) c.requi
 pub split_and_join-rest-requires : goal.split_and_join-rest-requires
 split_and_join-rest-requires t c = (
   search rules,
-  (search rules, subst (λ (v : SeatView). 2 ^ (c.args.splits - 1) ≤ v.share) (sym c.in-Ok.ensures.kept) (halves c.args.splits _ (search rules) c.requires.share).1),
+  (
+    search rules,
+    subst (λ (v : SeatView). 2 ^ (c.args.splits - 1) ≤ v.share) (sym c.in-Ok.ensures.kept) (halves c.args.splits _
+        (search rules) c.requires.share).1,
+  ),
 )

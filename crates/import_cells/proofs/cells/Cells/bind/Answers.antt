@@ -16,7 +16,8 @@ compare_exchange-requires c =
       exchanges c.self.inside.words.shared.key.value.items _ _ _ c.args.cell _ _ (search rules) c.seat.invariant.live
           (initial_read c.self.inside.plan.items _ c.args.cell _ c.self.invariant.0 (search rules) c.index.ensures)
           (subst (λ (p : List CellPlan). bound_of p c.args.cell ≡ Some c.args.value) (sym same) c.requires.value)
-          (λ d i. subst (λ (v : SeatView). In v.seen d) (sym seat) (c.requires.first d (subst (λ (p : List CellPlan). In (first_of p c.args.cell) d) same i))),
+          (λ d i. subst (λ (v : SeatView). In v.seen d) (sym seat) (c.requires.first d (subst (λ (p : List CellPlan). In
+          (first_of p c.args.cell) d) same i))),
     )
 
 pub returns-clause-event : goal.returns-clause-event
