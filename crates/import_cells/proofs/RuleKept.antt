@@ -308,7 +308,8 @@ joins plan id v other u live s r at apart at_other' = record {
         ∙ set_here s.views id (joined v u) (at_below s.views id v at)
 
     -- the view at a place is the one that is known there
-    same_view : (k : ℕ) (z y : SeatView) (j c : ℕ) → get_elem? s.views k ≡ some z → j ≡ k → get_elem? s.views j ≡ some y → In y.asked c → In z.asked c
+    same_view : (k : ℕ) (z y : SeatView) (j c : ℕ) → get_elem? s.views k ≡ some z → j ≡ k → get_elem? s.views j ≡ some y
+        → In y.asked c → In z.asked c
     same_view k z y j c at_z e at_y i =
         subst (λ (x : SeatView). In x.asked c) (sym (at_one s.views k z y at_z (subst (λ m. get_elem? s.views m ≡ some y) e at_y))) i
 

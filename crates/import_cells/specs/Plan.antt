@@ -1,12 +1,16 @@
 -- The plan of the import cells (ReadyToRun File Format, "Import Sections"): the word of each cell at first, the one value that
 -- binding gives it, and the cells that are bound before it. A cell outside the plan holds 0 and is never bound.
-use Rattle.std.specs.Prelude.{◌≡◌, ℕ, ◌<◌, ◌^◌, ◌+◌, ◌-◌, ◌⊎◌, ◌&&◌, if◌then◌else◌, Bool, true, false, List, [], ◌∷◌, length, Option, Some, None, is_some, unwrap_or, slice_get, All}
+use Rattle.std.specs.Prelude.{◌≡◌, ℕ, ◌<◌, ◌^◌, ◌+◌, ◌-◌, ◌⊎◌, ◌&&◌, if◌then◌else◌, Bool, true, false, List, [], ◌∷◌, length, Option, Some, None, is_some, unwrap_or, slice_get, All, ◌↔◌, slice_index_or}
 use Rattle.import_cells.specs.declared.plan.CellPlan.{CellPlan}
 
 -- the list has this cell
 abbrev pub In : List ℕ → ℕ → Type 0
 In [] c = ⊥
 In (d ∷ ds) c = (c ≡ d) ⊎ In ds c
+
+-- of the first n cells, the flags mark those that are in the list
+abbrev pub Marks : List Bool → ℕ → List ℕ → Type 0
+Marks flags n cells = (c : ℕ) → c < n → (slice_index_or flags c false ≡ true) ↔ In cells c
 
 abbrev pub initial_in : Option CellPlan → ℕ
 initial_in None = 0

@@ -1,7 +1,7 @@
 //! The cells themselves.
 
-ghost use Rattle.std.specs.Prelude.{◌≡◌, ℕ, ◌<◌, ◌↔◌, ◌||◌, true, false, length, slice_index_or, replicate, IfOk, OnErr, OnOk};
-ghost use Rattle.import_cells.specs.Plan.{In, IsReady, IsPlan};
+ghost use Rattle.std.specs.Prelude.{◌≡◌, ℕ, ◌<◌, ◌||◌, true, false, length, slice_index_or, replicate, IfOk, OnErr, OnOk};
+ghost use Rattle.import_cells.specs.Plan.{In, Marks, IsReady, IsPlan};
 ghost use Rattle.import_cells.specs.Core.{asked_after};
 ghost use Rattle.import_cells.specs.Seats.{IsSeatOf, HasCell, IsBoundValue, HasSeenFirst, CanSplit, IsAlone, first_view, after_event, kept_half, given_half, joined, IsNext, Answer, Run};
 ghost use Rattle.import_cells.specs.declared.event.CellEvent.TheVariants.{Loaded, Asked};
@@ -23,13 +23,13 @@ pub struct Cells {
 
 impl Model for Cells {
     ghost use Rattle.import_cells.specs.Seats.{CellsState};
-    ghost use Rattle.std.specs.Prelude.{◌≡◌, ◌+◌, length};
+    ghost use Rattle.import_cells.specs.Seated.{IsTableOf};
 
     ghost Value = { CellsState };
 
     ghost view = { λ s. record { table = s.words.shared.table_id; plan = s.plan.items } };
 
-    ghost invariant = { λ s. (s.words.shared.key.value.items ≡ s.plan.items) × (s.words.shared.table_id.words ≡ length s.plan.items + 1) × (s.words.shared.table_id.slots ≡ 0) };
+    ghost invariant = { λ s. IsTableOf s.plan.items s.words.shared.key.value.items s.words.shared.table_id };
 }
 
 impl Cells {
@@ -120,11 +120,11 @@ impl Cells {
         requires seat { IsSeatOf self seat }
         requires share { IsAlone seat }
         ensures count { length result.items ≡ length self.plan }
-        ensures asked { (c : ℕ) → c < length self.plan → (slice_index_or result.items c false ≡ true) ↔ In seat.view.asked c }
+        ensures asked { Marks result.items (length self.plan) seat.view.asked }
         ensures seen { (c : ℕ) → In seat.view.seen c → slice_index_or result.items c false ≡ true }
         ensures ready { (c : ℕ) → IsReady self.plan c → slice_index_or result.items c false ≡ true }
         // The seat has asked whatever any worker did.
-        ensures all { (r : Run seat.view) × ((c : ℕ) → c < length self.plan → (slice_index_or result.items c false ≡ true) ↔ In (asked_after self.plan r.events) c) }
+        ensures all { (r : Run seat.view) × Marks result.items (length self.plan) (asked_after self.plan r.events) }
     {
         let Cells { plan: _, words } = self;
         let Seat { asked, place } = seat;
