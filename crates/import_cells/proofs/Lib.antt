@@ -1,0 +1,11 @@
+pub mod Lists
+pub mod Plans
+pub mod CoreLaws
+pub mod AnswerLaws
+pub mod Views
+pub mod RuleKept
+pub mod RuleSays
+pub mod SeatLaws
+pub mod Flags
+pub mod SeatsKept
+pub mod TestCells

@@ -1,0 +1,6 @@
+pub mod Plan
+pub mod Core
+pub mod Seats
+pub mod Seated
+pub mod Shared
+pub mod Laws
