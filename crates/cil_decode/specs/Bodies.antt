@@ -1,5 +1,5 @@
 -- A method's code as its instructions.
-use Rattle.std.specs.Prelude.{◌≡◌, ◌<◌, ◌⊎◌, ℕ, ◌+◌, ◌==◌, not, Bool, List, [], ◌∷◌, length, find, Option, Some, None, Result, Ok, Err, slice_index}
+use Rattle.std.specs.Prelude.{◌≡◌, ◌<◌, ◌⊎◌, ℕ, ◌+◌, ◌==◌, not, Bool, List, [], ◌∷◌, length, find, Option, Some, None, Result, Ok, Err, slice_index, get_or, false}
 use Rattle.std.specs.Option.{option_map}
 use Rattle.std.specs.List.{list_all, list_any}
 use Rattle.std.specs.Global.{Vec}
@@ -30,19 +30,26 @@ is_start list at = list_any (λ i. i.at == at) list
 abbrev pub is_linked : List Instr → Instr → Bool
 is_linked list i = list_all (is_start list) (targets_of i.arg)
 
--- the offset of the first instruction with another target
+-- the offset of the first of some instructions with another target
+abbrev pub first_unlinked_of : List Instr → List Instr → Option ℕ
+first_unlinked_of list some = option_map (λ i. i.at) (find (λ i. not (is_linked list i)) some)
+
 abbrev pub first_unlinked : List Instr → Option ℕ
-first_unlinked list = option_map (λ i. i.at) (find (λ i. not (is_linked list i)) list)
+first_unlinked list = first_unlinked_of list list
 
 -- ---- the whole
 
--- The code is these instructions, from its first byte to its last, and each of their targets is one of them.
-pub record IsBody (code : List ℕ) (list : List Instr) : Type 0 where
+-- a code that has bytes is these instructions, from its first byte to its last
+pub record IsCode (code : List ℕ) (list : List Instr) : Type 0 where
   pub some : 0 < length code
   pub follow : Follow code 0 list (length code)
+
+-- and each of their targets is the offset of one of them
+pub record IsBody (code : List ℕ) (list : List Instr) : Type 0 where
+  pub code_is : IsCode code list
   pub linked : first_unlinked list ≡ None
 
--- An instruction that can't be read, after some that can: none is asked for at the end of a code that has bytes.
+-- An instruction that can't be read, after those that can. At the end of a code that has bytes none is read.
 pub record Breaks (code : List ℕ) (e : BodyRefusal) : Type 0 where
   pub before : List Instr
   pub at : ℕ
@@ -50,18 +57,42 @@ pub record Breaks (code : List ℕ) (e : BodyRefusal) : Type 0 where
   pub more : (at < length code) ⊎ (length code ≡ 0)
   pub broken : instr_at code at ≡ Err e
 
--- instructions of the whole code, of which the first with a bad target is at an offset
+-- all can be read, and the first with a bad target is at an offset
 pub record IsUnlinked (code : List ℕ) (at : ℕ) : Type 0 where
   pub list : List Instr
-  pub some : 0 < length code
-  pub follow : Follow code 0 list (length code)
+  pub code_is : IsCode code list
   pub first : first_unlinked list ≡ Some at
 
 -- why a code is refused; want of memory is left free
 abbrev pub IsRefused : List ℕ → BodyRefusal → Type 0
+IsRefused code (refusals.Cut at) = Breaks code (refusals.Cut at)
+IsRefused code (refusals.OutOfProfile at) = Breaks code (refusals.OutOfProfile at)
 IsRefused code (refusals.BadTarget at) = IsUnlinked code at
 IsRefused code refusals.NoMemory = Unit {0}
-IsRefused code e = Breaks code e
+
+-- a refusal for the first bad target
+abbrev pub IsUnlinkedBy : Option ℕ → BodyRefusal → Type 0
+IsUnlinkedBy first (refusals.BadTarget at) = first ≡ Some at
+IsUnlinkedBy first refusals.NoMemory = Unit {0}
+IsUnlinkedBy first e = ⊥
+
+-- ---- one answer
+
+-- it is the list, or memory was refused
+abbrev pub GivesBody : Result (Vec Instr) BodyRefusal → List Instr → Type 0
+GivesBody (Ok v) list = v.items ≡ list
+GivesBody (Err e) list = e ≡ refusals.NoMemory
+
+-- it is the refusal, or memory was refused
+abbrev pub IsFreely : BodyRefusal → BodyRefusal → Type 0
+IsFreely refusals.NoMemory e = Unit {0}
+IsFreely f e = (e ≡ refusals.NoMemory) ⊎ (f ≡ e)
+
+abbrev pub GivesRefusal : Result (Vec Instr) BodyRefusal → BodyRefusal → Type 0
+GivesRefusal (Ok v) e = e ≡ refusals.NoMemory
+GivesRefusal (Err f) e = IsFreely f e
+
+-- ---- written again
 
 -- each number of the list is a byte
 abbrev pub AreBytes : List ℕ → Type 0
@@ -72,3 +103,7 @@ pub record IsDecoded (list : List Instr) : Type 0 where
   pub code : List ℕ
   pub bytes : AreBytes code
   pub body : IsBody code list
+
+-- which offsets are marked as starts
+abbrev pub Marks : List Bool → List Instr → Type 0
+Marks marks list = (at : ℕ) → get_or marks at false ≡ is_start list at

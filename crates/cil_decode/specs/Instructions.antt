@@ -89,6 +89,7 @@ instr_at code at = with_form code at (form_in (drop at code))
 -- what a reader of it answers where it refuses: it found no memory, or there is no instruction for this reason
 abbrev pub IsRefusedAt : List ℕ → ℕ → BodyRefusal → Type 0
 IsRefusedAt code at refusals.NoMemory = Unit {0}
+IsRefusedAt code at (refusals.BadTarget k) = ⊥
 IsRefusedAt code at e = instr_at code at ≡ Err e
 
 -- how many bytes it has

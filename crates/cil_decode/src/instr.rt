@@ -66,6 +66,7 @@ impl Instr {
         requires within { at < length code.now }
         ensures read { IfOk result (λ i. instr_at code.now at ≡ Ok i) }
         ensures refused { IfErr result (λ e. IsRefusedAt code.now at e) }
+        ensures inside { IfOk result (λ i. at + instr_size i ≤ length code.now) }
     {
         let Some(form) = form_at(code, at) else {
             return Err(BodyRefusal::Cut(at));

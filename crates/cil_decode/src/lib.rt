@@ -8,7 +8,8 @@ mod body;
 mod instr;
 mod opcode;
 mod operand;
+mod starts;
 
-pub use body::BodyRefusal;
+pub use body::{BodyRefusal, decode_body};
 pub use instr::{Arg, Instr, Targets};
 pub use opcode::{OPCODES, OpcodeRange, Operand, operand_of};

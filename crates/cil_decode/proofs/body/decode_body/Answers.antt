@@ -1,0 +1,8 @@
+use Rattle.cil_decode.proofs.Followed.{one_body, one_refusal}
+use Rattle.cil_decode.proofs.body.decode_body.Goals as goal
+
+pub returns-clause-only_body : goal.returns-clause-only_body
+returns-clause-only_body c = λ list. one_body c.args.code.now c.read_linked.result list c.read_linked.ensures.body c.read_linked.ensures.refused
+
+pub returns-clause-only_refusal : goal.returns-clause-only_refusal
+returns-clause-only_refusal c = λ e. one_refusal c.args.code.now c.read_linked.result e c.read_linked.ensures.body c.read_linked.ensures.refused
