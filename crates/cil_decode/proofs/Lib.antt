@@ -1,3 +1,4 @@
 mod Sizes
 mod Followed
 mod Marked
+mod Numbers

@@ -1,5 +1,5 @@
 -- A method's code as its instructions.
-use Rattle.std.specs.Prelude.{◌≡◌, ◌<◌, ◌⊎◌, ℕ, ◌+◌, ◌==◌, not, Bool, List, [], ◌∷◌, length, find, Option, Some, None, Result, Ok, Err, slice_index, get_or, false}
+use Rattle.std.specs.Prelude.{◌≡◌, ◌<◌, ◌≤◌, ◌⊎◌, ℕ, ◌+◌, ◌^◌, ◌==◌, not, Bool, List, [], ◌∷◌, length, find, Option, Some, None, Result, Ok, Err, slice_index, get_or, false}
 use Rattle.std.specs.Option.{option_map}
 use Rattle.std.specs.List.{list_all, list_any}
 use Rattle.std.specs.Global.{Vec}
@@ -98,10 +98,11 @@ GivesRefusal (Err f) e = IsFreely f e
 abbrev pub AreBytes : List ℕ → Type 0
 AreBytes bytes = (i : ℕ) → slice_index bytes i < 256
 
--- some code decodes to these instructions
+-- some code of at most 2^31 bytes decodes to these instructions
 pub record IsDecoded (list : List Instr) : Type 0 where
   pub code : List ℕ
   pub bytes : AreBytes code
+  pub small : length code ≤ 2 ^ 31
   pub body : IsBody code list
 
 -- which offsets are marked as starts

@@ -1,4 +1,4 @@
--- One instruction at an offset of a code (ECMA-335 III.1.2 and III.1.7): its opcode, and behind it the opcode's operand.
+-- One instruction at an offset of a code (ECMA-335 III.1.2 and III.1.7): its opcode, and after it the opcode's operand.
 use Rattle.std.specs.Prelude.{◌≡◌, ℕ, ◌+◌, ◌-◌, ◌*◌, ◌%◌, ◌^◌, ◌==◌, ℤ, pos, List, [], ◌∷◌, length, map, drop, Option, Some, None, Result, Ok, Err, nat_le, nat_lt, if◌then◌else◌}
 use Rattle.std.specs.Option.{option_map, option_and_then}
 use Rattle.std.specs.List.{range_with_len}
@@ -32,7 +32,7 @@ abbrev pub target : ℕ → ℕ → ℕ → ℕ
 target size next distance =
     (next + (if nat_lt distance (2 ^ (8 * size - 1)) then distance else distance + (2 ^ 32 - 2 ^ (8 * size)))) % 2 ^ 32
 
--- the targets of a switch: their number stands at an offset, and behind it their distances
+-- the targets of a switch: their number is at an offset, and after it their distances
 abbrev pub switch_target : List ℕ → ℕ → ℕ → ℕ → ℕ
 switch_target code at count i = target 4 (at + 4 + 4 * count) (u32_of code (at + 4 + 4 * i))
 
@@ -92,23 +92,27 @@ IsRefusedAt code at refusals.NoMemory = Unit {0}
 IsRefusedAt code at (refusals.BadTarget k) = ⊥
 IsRefusedAt code at e = instr_at code at ≡ Err e
 
--- how many bytes it has
+-- how many bytes an operand has, of which a switch's targets are not counted
+abbrev pub fixed_size : Operand → ℕ
+fixed_size operands.Nothing = 0
+fixed_size operands.UInt8 = 1
+fixed_size operands.UInt16 = 2
+fixed_size operands.Int8 = 1
+fixed_size operands.Int32 = 4
+fixed_size operands.Int64 = 8
+fixed_size operands.Token = 4
+fixed_size operands.ShortTarget = 1
+fixed_size operands.Target = 4
+fixed_size operands.Targets = 4
+
 abbrev pub operand_size : Operand → Arg → ℕ
-operand_size operands.Nothing arg = 0
-operand_size operands.UInt8 arg = 1
-operand_size operands.UInt16 arg = 2
-operand_size operands.Int8 arg = 1
-operand_size operands.Int32 arg = 4
-operand_size operands.Int64 arg = 8
-operand_size operands.Token arg = 4
-operand_size operands.ShortTarget arg = 1
-operand_size operands.Target arg = 4
 operand_size operands.Targets (args.Targets targets) = 4 + 4 * length targets
-operand_size operands.Targets arg = 4
+operand_size operand arg = fixed_size operand
 
 abbrev pub arg_size : Arg → Option Operand → ℕ
 arg_size arg None = 0
 arg_size arg (Some operand) = operand_size operand arg
 
+-- how many bytes an instruction has
 unfoldable pub instr_size : Instr → ℕ
 instr_size i = form_size i.form + arg_size i.arg (operand_of i.form)

@@ -98,15 +98,8 @@ fn operand_size(operand: Operand, arg: &Arg) -> u32
     requires { operand_size operand arg.now ≤ 2 ^ 31 }
     ensures { result ≡ operand_size operand arg.now }
 {
-    match operand {
-        Operand::Nothing => 0,
-        Operand::UInt8 | Operand::Int8 | Operand::ShortTarget => 1,
-        Operand::UInt16 => 2,
-        Operand::Int32 | Operand::Token | Operand::Target => 4,
-        Operand::Int64 => 8,
-        Operand::Targets => match arg {
-            Arg::Targets(targets) => 4 + 4 * targets.len() as u32,
-            _ => 4,
-        },
+    match (operand, arg) {
+        (Operand::Targets, Arg::Targets(targets)) => 4 + 4 * targets.len() as u32,
+        _ => operand.fixed_size(),
     }
 }

@@ -5,11 +5,13 @@
 #![tactic(auto)]
 
 mod body;
+mod encode;
 mod instr;
 mod opcode;
 mod operand;
 mod starts;
 
 pub use body::{BodyRefusal, decode_body};
+pub use encode::encode_body;
 pub use instr::{Arg, Instr, Targets};
 pub use opcode::{OPCODES, OpcodeRange, Operand, operand_of};

@@ -1,6 +1,7 @@
 //! The opcodes of the profile, and the operand of each (ECMA-335 III.1.2, III.3 and III.4).
 
-ghost use Rattle.std.specs.Prelude.{◌≡◌};
+ghost use Rattle.std.specs.Prelude.{◌≡◌, ◌≤◌};
+ghost use Rattle.cil_decode.specs.Instructions.{fixed_size};
 ghost use Rattle.cil_decode.specs.Opcodes.{has_form, operand_in, operand_of};
 
 /// The operand that follows an opcode, by its bytes.
@@ -26,6 +27,22 @@ pub enum Operand {
     Target,
     /// The number of targets, and then each as a signed distance of four bytes from the next instruction.
     Targets,
+}
+
+impl Operand {
+    /// How many bytes it has in a code. The targets of a `switch` are not counted.
+    pub(crate) fn fixed_size(self) -> u32
+        ensures size { result ≡ fixed_size self }
+        ensures few { result ≤ 8 }
+    {
+        match self {
+            Operand::Nothing => 0,
+            Operand::UInt8 | Operand::Int8 | Operand::ShortTarget => 1,
+            Operand::UInt16 => 2,
+            Operand::Int32 | Operand::Token | Operand::Target | Operand::Targets => 4,
+            Operand::Int64 => 8,
+        }
+    }
 }
 
 /// Opcodes in a row that have the same operand. An opcode of two bytes FE XX is the form 0xFEXX.
