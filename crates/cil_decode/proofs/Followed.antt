@@ -151,7 +151,7 @@ none_read code none = record {
 
 -- ---- where they begin
 
-follow_up : (code : List ℕ) (at n : ℕ) (is : List Instr) → Follow code at is n → at ≤ n
+pub follow_up : (code : List ℕ) (at n : ℕ) (is : List Instr) → Follow code at is n → at ≤ n
 follow_up code at n [] e = omega arith
 follow_up code at n (i ∷ is) (read, rest) = let later = follow_up code (at + instr_size i) n is rest in omega arith
 

@@ -2,3 +2,5 @@ mod Sizes
 mod Followed
 mod Marked
 mod Numbers
+mod Fields
+mod Encoded

@@ -1,6 +1,6 @@
 //! A method's code from its instructions.
 
-ghost use Rattle.std.specs.Prelude.{◌≡◌, ◌+◌, ◌*◌, ◌++◌, ◌≤◌, ◌<◌, ◌^◌, ℕ, List, length, IfOk, OnOk};
+ghost use Rattle.std.specs.Prelude.{◌≡◌, ◌+◌, ◌++◌, ◌≤◌, ◌<◌, ◌^◌, ℕ, List, All, IfOk, OnOk};
 ghost use Rattle.byteorder.specs.Endian.{little_bytes};
 ghost use Rattle.cil_decode.specs.Bodies.{AreBytes, IsBody, IsDecoded};
 ghost use Rattle.cil_decode.specs.Encoding.{arg_bytes, code_bytes, distance, distances, form_bytes, instr_bytes};
@@ -83,19 +83,34 @@ fn put_instr(out: &mut Vec<u8>, instr: &Instr) -> Result<(), NoMemory>
     }
 }
 
+/// How many bytes the code of instructions has: where the last one ends.
+fn code_len(list: &[Instr]) -> u32
+    requires { All (λ i. i.at + instr_size i ≤ 2 ^ 31) list.now }
+{
+    match list.last() {
+        Some(last) => last.at + last.size(),
+        None => 0,
+    }
+}
+
+/// Appends instructions.
+fn put_all(out: &mut Vec<u8>, list: &[Instr]) -> Result<(), NoMemory>
+    requires { All (λ i. i.at + instr_size i ≤ 2 ^ 31) list.now }
+    ensures { OnOk result (out.new.items ≡ out.old.items ++ code_bytes list.now) }
+{
+    for instr in list {
+        put_instr(out, instr)?;
+    }
+    Ok(())
+}
+
 /// The code of instructions to which some code decodes. It is that code: no other one decodes to them.
 pub fn encode_body(alloc: Global, list: &[Instr]) -> Result<Vec<u8>, NoMemory>
     requires { IsDecoded list.now }
     ensures code { IfOk result (λ code. IsBody code.items list.now) }
     ensures only_code { IfOk result (λ code. (other : List ℕ) → AreBytes other → IsBody other list.now → code.items ≡ other) }
 {
-    let len = match list.last() {
-        Some(last) => last.at + last.size(),
-        None => 0,
-    };
-    let mut out = Vec::with_capacity(alloc, len as usize)?;
-    for instr in list {
-        put_instr(&mut out, instr)?;
-    }
-    Ok(out)
+    let mut code = Vec::with_capacity(alloc, code_len(list) as usize)?;
+    put_all(&mut code, list)?;
+    Ok(code)
 }
