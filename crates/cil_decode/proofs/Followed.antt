@@ -7,7 +7,7 @@ use Rattle.cil_decode.specs.declared.instr.Instr.{Instr}
 use Rattle.cil_decode.specs.declared.body.BodyRefusal.{BodyRefusal}
 use Rattle.cil_decode.specs.declared.body.BodyRefusal.TheVariants as refusals
 use Rattle.cil_decode.specs.Instructions.{IsRefusedAt, form_in, instr_at, instr_size, with_form}
-use Rattle.cil_decode.specs.Bodies.{Breaks, Follow, GivesBody, GivesRefusal, IsBody, IsCode, IsFreely, IsRefused, IsUnlinked, first_unlinked}
+use Rattle.cil_decode.specs.Bodies.{AreBytes, Breaks, Follow, GivesBody, GivesRefusal, IsBody, IsCode, IsDecoded, IsFreely, IsRefused, IsUnlinked, first_unlinked}
 use Rattle.cil_decode.proofs.Sizes.{IsRead, is_read}
 
 pub follow_more : (code : List ℕ) (at mid : ℕ) (is : List Instr) (i : Instr) → Follow code at is mid → instr_at code mid ≡ Ok i → Follow code at (is ++ i ∷ []) (mid + instr_size i)
@@ -162,3 +162,9 @@ begins_below code at n (i ∷ is) (read, rest) zero d h =
     let later = follow_up code (at + instr_size i) n is rest in
     omega (arith, first.at_is, first.some, later)
 begins_below code at n (i ∷ is) (read, rest) (suc k) d h = begins_below code (at + instr_size i) n is rest k d (omega arith)
+
+-- ---- such a list can be encoded
+
+pub decoded_so : (code : List ℕ) (r : Result (Vec Instr) BodyRefusal) → AreBytes code → length code ≤ 2 ^ 31 → IfOk r (λ v. IsBody code v.items) → IfOk r (λ v. IsDecoded v.items)
+decoded_so code (Ok v) bytes small ok = record { code = code; bytes = bytes; small = small; body = ok }
+decoded_so code (Err e) bytes small ok = tt

@@ -4,3 +4,4 @@ mod Marked
 mod Numbers
 mod Fields
 mod Encoded
+mod Known

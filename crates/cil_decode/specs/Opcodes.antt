@@ -1,18 +1,20 @@
--- The operand of an opcode, by the table of opcodes.
-use Rattle.std.specs.Prelude.{ℕ, ◌&&◌, Bool, List, Option, nat_le, find}
+-- The opcode of a form, and its operand, by the table of opcodes.
+use Rattle.std.specs.Prelude.{ℕ, ◌==◌, Bool, List, Option, find}
 use Rattle.std.specs.Option.{option_map}
 use Rattle.cil_decode.specs.declared.opcode.Operand.{Operand}
-use Rattle.cil_decode.specs.declared.opcode.OpcodeRange.{OpcodeRange}
+use Rattle.cil_decode.specs.declared.opcode.Opcode.{Opcode}
 use Rattle.cil_decode.specs.declared.opcode.TheConstants.{OPCODES}
 
--- an opcode is one of a range
-abbrev pub has_form : ℕ → OpcodeRange → Bool
-has_form form range = nat_le range.first form && nat_le form range.last
+abbrev pub has_form : ℕ → Opcode → Bool
+has_form form o = o.form == form
 
--- the operand of the first range that has it
-abbrev pub operand_in : List OpcodeRange → ℕ → Option Operand
-operand_in ranges form = option_map (λ range. range.operand) (find (has_form form) ranges)
+-- the first of a table with a form
+abbrev pub find_opcode : List Opcode → ℕ → Option Opcode
+find_opcode table form = find (has_form form) table
 
 -- none outside the profile
+unfoldable pub opcode_of : ℕ → Option Opcode
+opcode_of form = find_opcode OPCODES form
+
 unfoldable pub operand_of : ℕ → Option Operand
-operand_of form = operand_in OPCODES form
+operand_of form = option_map (λ o. o.operand) (opcode_of form)

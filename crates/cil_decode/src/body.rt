@@ -4,7 +4,7 @@ ghost use Rattle.std.specs.Prelude.{◌≡◌, ◌≤◌, ◌<◌, ◌^◌, List
 ghost use Rattle.cil_decode.specs.declared.body.BodyRefusal.TheVariants as refusals;
 ghost use Rattle.cil_decode.specs.declared.body.BodyRefusal.{BodyRefusal as Refusal};
 ghost use Rattle.cil_decode.specs.declared.instr.Instr.{Instr as Instruction};
-ghost use Rattle.cil_decode.specs.Bodies.{GivesBody, GivesRefusal, IsBody, IsCode, IsRefused, IsUnlinkedBy, first_unlinked};
+ghost use Rattle.cil_decode.specs.Bodies.{GivesBody, GivesRefusal, IsBody, IsCode, IsDecoded, IsRefused, IsUnlinkedBy, first_unlinked};
 
 use crate::instr::Instr;
 use crate::starts::Starts;
@@ -105,6 +105,8 @@ fn read_linked(alloc: Global, code: &[u8]) -> Result<Vec<Instr>, BodyRefusal>
 pub fn decode_body(alloc: Global, code: &[u8]) -> Result<Vec<Instr>, BodyRefusal>
     requires { length code.now ≤ 2 ^ 31 }
     ensures body { IfOk result (λ list. IsBody code.now list.items) }
+    // Such instructions can be encoded.
+    ensures decoded { IfOk result (λ list. IsDecoded list.items) }
     ensures refused { IfErr result (λ e. IsRefused code.now e) }
     // There is one answer: the instructions that the code has, and the one refusal of a code that has none.
     ensures only_body { (list : List Instruction) → IsBody code.now list → GivesBody result list }
