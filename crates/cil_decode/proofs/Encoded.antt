@@ -1,8 +1,8 @@
 -- The bytes of instructions are the code that they were read from.
-use Rattle.std.proofs.Common.{◌≡◌, ℕ, zero, suc, ◌+◌, ◌*◌, ◌%◌, ◌^◌, ◌-◌, ◌<◌, ◌≤◌, Bool, true, false, cond, List, [], ◌∷◌, ◌++◌, length, drop, get_or, Option, Some, None, Result, Ok, Err, refl, sym, ap, ◌∙◌, subst, arith, append_assoc, append-nil}
+use Rattle.std.proofs.Common.{◌≡◌, ℕ, zero, suc, ◌+◌, ◌%◌, ◌^◌, ◌<◌, ◌≤◌, Bool, true, false, cond, List, [], ◌∷◌, ◌++◌, length, drop, get_or, Option, Some, None, Ok, refl, sym, ap, ◌∙◌, subst, arith, append_assoc, append-nil}
 use Rattle.std.specs.Prelude.{nat_lt, ◌==◌}
 use Rattle.std.proofs.lemmas.Bool.Decides.{nat_tests}
-use Rattle.std.proofs.lemmas.List.{drop-drop, drop_all, length-drop}
+use Rattle.std.proofs.lemmas.List.{drop-drop, drop_all}
 use Rattle.cil_decode.specs.declared.opcode.Operand.{Operand}
 use Rattle.cil_decode.specs.declared.instr.Arg.{Arg}
 use Rattle.cil_decode.specs.declared.instr.Instr.{Instr}
@@ -98,11 +98,11 @@ spelled code at i h small within e =
     let P : Instr → Type 0 = λ j. drop at code ≡ instr_bytes j ++ drop (at + instr_size j) code in
     let last : drop end code ≡ drop (at + instr_size (instr at p.form p.arg)) code = ap (λ n. drop n code) (omega (arith, size)) in
     subst P p.whole (
-      form.spelled
-      ∙ ap (λ xs. form_bytes p.form ++ xs) (drop-drop (form_size p.form) at code ∙ operand)
-      ∙ sym (append_assoc (form_bytes p.form) bytes (drop end code))
-      ∙ ap (λ xs. xs ++ drop end code) (sym (bytes_of at p.form p.arg p.operand p.operand_is))
-      ∙ ap (λ xs. instr_bytes (instr at p.form p.arg) ++ xs) last
+    form.spelled
+    ∙ ap (λ xs. form_bytes p.form ++ xs) (drop-drop (form_size p.form) at code ∙ operand)
+    ∙ sym (append_assoc (form_bytes p.form) bytes (drop end code))
+    ∙ ap (λ xs. xs ++ drop end code) (sym (bytes_of at p.form p.arg p.operand p.operand_is))
+    ∙ ap (λ xs. instr_bytes (instr at p.form p.arg) ++ xs) last
     )
 
 -- ---- the code

@@ -1,5 +1,5 @@
 -- An operand is spelled by the bytes that it was read from.
-use Rattle.std.proofs.Common.{◌≡◌, ℕ, zero, suc, ◌+◌, ◌*◌, ◌%◌, ◌^◌, ◌-◌, ◌<◌, ◌≤◌, Bool, true, false, cond, List, [], ◌∷◌, ◌++◌, length, map, flat_map, take, drop, slice_index, Option, Some, None, refl, sym, ap, ◌∙◌, subst, arith, ℤ, pos, append_assoc}
+use Rattle.std.proofs.Common.{◌≡◌, ℕ, zero, suc, ◌+◌, ◌*◌, ◌%◌, ◌^◌, ◌-◌, ◌<◌, ◌≤◌, Bool, true, false, cond, List, ◌++◌, length, map, take, drop, Option, Some, None, refl, sym, ap, ◌∙◌, subst, arith, ℤ, pos}
 use Rattle.std.specs.Prelude.{nat_le, nat_lt, unwrap_or, ◌-ℤ◌}
 use Rattle.std.proofs.Math.Nat.{mod-eq_of_lt}
 use Rattle.std.specs.Option.{option_map, option_and_then}
@@ -18,7 +18,7 @@ use Rattle.cil_decode.specs.declared.instr.Arg.{Arg}
 use Rattle.cil_decode.specs.declared.instr.Arg.TheVariants as args
 use Rattle.cil_decode.specs.Bodies.{AreBytes}
 use Rattle.cil_decode.specs.Encoding.{arg_bytes, distance, distances}
-use Rattle.cil_decode.specs.Instructions.{fixed_size, operand_at, operand_size, signed_at, switch_at, switch_operand_at, switch_target, target}
+use Rattle.cil_decode.specs.Instructions.{fixed_size, operand_at, operand_size, signed_at, switch_at, switch_target, target}
 use Rattle.cil_decode.proofs.Numbers.{bytes_of_number, low_bytes}
 
 pub bytes_from : (code : List ℕ) (at : ℕ) → AreBytes code → AreBytes (drop at code)

@@ -1,6 +1,6 @@
 -- Instructions one after the other: one more, and that there is one way.
-use Rattle.std.proofs.Common.{◌≡◌, ℕ, zero, suc, ◌+◌, ◌*◌, ◌^◌, ◌-◌, ◌<◌, ◌≤◌, ◌⊎◌, inl, inr, Bool, true, false, cond, List, [], ◌∷◌, ◌++◌, length, drop, get_or, Option, Some, None, Result, Ok, Err, refl, sym, ap, ◌∙◌, subst, arith, append-nil}
-use Rattle.std.specs.Prelude.{IfSome, IfOk, IfErr}
+use Rattle.std.proofs.Common.{◌≡◌, ℕ, zero, suc, ◌+◌, ◌^◌, ◌<◌, ◌≤◌, ◌⊎◌, inl, inr, List, [], ◌∷◌, ◌++◌, length, get_or, Some, Result, Ok, Err, refl, sym, ap, ◌∙◌, subst, arith, append-nil}
+use Rattle.std.specs.Prelude.{IfOk, IfErr}
 use Rattle.std.proofs.lemmas.List.{drop_all}
 use Rattle.std.specs.Global.{Vec}
 use Rattle.cil_decode.specs.declared.instr.Instr.{Instr}
@@ -8,7 +8,7 @@ use Rattle.cil_decode.specs.declared.body.BodyRefusal.{BodyRefusal}
 use Rattle.cil_decode.specs.declared.body.BodyRefusal.TheVariants as refusals
 use Rattle.cil_decode.specs.Instructions.{IsRefusedAt, form_in, instr_at, instr_size, with_form}
 use Rattle.cil_decode.specs.Bodies.{AreBytes, Breaks, Follow, GivesBody, GivesRefusal, IsBody, IsCode, IsDecoded, IsFreely, IsRefused, IsUnlinked, first_unlinked}
-use Rattle.cil_decode.proofs.Sizes.{IsRead, is_read}
+use Rattle.cil_decode.proofs.Sizes.{is_read}
 
 pub follow_more : (code : List ℕ) (at mid : ℕ) (is : List Instr) (i : Instr) → Follow code at is mid → instr_at code mid ≡ Ok i → Follow code at (is ++ i ∷ []) (mid + instr_size i)
 follow_more code at mid [] i e read = (subst (λ n. instr_at code n ≡ Ok i) (sym e) read, ap (λ n. n + instr_size i) e)
@@ -47,15 +47,15 @@ joined code at m n (i ∷ is) (j ∷ js) (r, f) (s, g) =
     let same : i ≡ j = cc in
     let there : Follow code (at + instr_size i) js n = subst (λ k. Follow code (at + instr_size k) js n) (sym same) g in
     elim (joined code (at + instr_size i) m n is js f there) [
-      inl x ↦ inl (one_more code m n i j is js same x)
-    | inr x ↦ inr (one_more code n m j i js is (sym same) x)
+      | inl x ↦ inl (one_more code m n i j is js same x)
+      | inr x ↦ inr (one_more code n m j i js is (sym same) x)
     ]
 
 pub one_code : (code : List ℕ) (is js : List Instr) → IsCode code is → IsCode code js → is ≡ js
 one_code code is js a b =
     elim (joined code 0 (length code) (length code) is js a.follow b.follow) [
-      inl x ↦ sym (x.whole ∙ ap (λ more. is ++ more) (ends_there code x.more (length code) x.follow).0 ∙ append-nil is)
-    | inr x ↦ x.whole ∙ ap (λ more. js ++ more) (ends_there code x.more (length code) x.follow).0 ∙ append-nil js
+      | inl x ↦ sym (x.whole ∙ ap (λ more. is ++ more) (ends_there code x.more (length code) x.follow).0 ∙ append-nil is)
+      | inr x ↦ x.whole ∙ ap (λ more. js ++ more) (ends_there code x.more (length code) x.follow).0 ∙ append-nil js
     ]
 
 -- where an instruction can't be read none follows
@@ -69,15 +69,15 @@ before_end code e b some same = elim b.more [ inl below ↦ omega (arith, below,
 pub not_broken : (code : List ℕ) (e : BodyRefusal) (list : List Instr) → Breaks code e → IsCode code list → ⊥
 not_broken code e list b whole =
     elim (joined code 0 b.at (length code) b.before list b.follow whole.follow) [
-      inl x ↦ before_end code e b whole.some (stops code e b x.more (length code) x.follow)
-    | inr x ↦ before_end code e b whole.some (sym (ends_there code x.more b.at x.follow).1)
+      | inl x ↦ before_end code e b whole.some (stops code e b x.more (length code) x.follow)
+      | inr x ↦ before_end code e b whole.some (sym (ends_there code x.more b.at x.follow).1)
     ]
 
 pub one_break : (code : List ℕ) (e f : BodyRefusal) → Breaks code e → Breaks code f → e ≡ f
 one_break code e f a b =
     let same : a.at ≡ b.at = elim (joined code 0 a.at b.at a.before b.before a.follow b.follow) [
-      inl x ↦ stops code e a x.more b.at x.follow
-    | inr x ↦ sym (stops code f b x.more a.at x.follow)
+      | inl x ↦ stops code e a x.more b.at x.follow
+      | inr x ↦ sym (stops code f b x.more a.at x.follow)
     ] in
     let there : instr_at code a.at ≡ Err f = subst (λ n. instr_at code n ≡ Err f) (sym same) b.broken in
     let here = a.broken in

@@ -1,5 +1,5 @@
 -- An opcode of the table has an operand and an operation.
-use Rattle.std.proofs.Common.{◌≡◌, ℕ, Bool, Option, Some, None, refl}
+use Rattle.std.proofs.Common.{◌≡◌, Option, Some, None, refl}
 use Rattle.std.specs.Prelude.{is_some}
 use Rattle.std.specs.Option.{option_map}
 use Rattle.cil_decode.specs.declared.instr.Arg.{Arg}

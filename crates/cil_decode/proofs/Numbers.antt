@@ -1,5 +1,5 @@
 -- The bytes that a number was read from.
-use Rattle.std.proofs.Common.{◌≡◌, ℕ, zero, suc, ◌+◌, ◌*◌, ◌/◌, ◌%◌, ◌^◌, ◌-◌, ◌<◌, ◌≤◌, Bool, true, false, cond, List, [], ◌∷◌, ◌++◌, length, take, drop, slice_index, Option, Some, None, refl, sym, ap, ◌∙◌, subst, arith, ℤ, pos}
+use Rattle.std.proofs.Common.{◌≡◌, ℕ, zero, suc, ◌+◌, ◌*◌, ◌/◌, ◌%◌, ◌^◌, ◌<◌, ◌≤◌, List, [], ◌∷◌, length, take, refl, sym, ap, ◌∙◌, arith}
 use Rattle.std.proofs.Math.Nat.{div-div-eq-div-mul, div-one, pow-succ'}
 use Rattle.std.proofs.lemmas.List.{append-nil, take_all}
 use Rattle.std.specs.Int.{byte_at, bytes_low_first}
@@ -18,7 +18,7 @@ byte_above (suc j) x w h =
     let k = 256 ^ suc j in
     let shifted : (x + 256 * w) / 256 ≡ w = omega arith in
     let quotient : (x + 256 * w) / 256 ^ suc (suc j) ≡ w / k =
-        ap (λ n. (x + 256 * w) / n) (pow-succ' 256 (suc j)) ∙ sym (div-div-eq-div-mul (x + 256 * w) 256 k) ∙ ap (λ n. n / k) shifted in
+    ap (λ n. (x + 256 * w) / n) (pow-succ' 256 (suc j)) ∙ sym (div-div-eq-div-mul (x + 256 * w) 256 k) ∙ ap (λ n. n / k) shifted in
     ap (λ n. n % 256) quotient
 
 bytes_above : (j n x w : ℕ) → x < 256 → bytes_low_first (suc j) n (x + 256 * w) ≡ bytes_low_first j n w
@@ -52,7 +52,7 @@ low_bytes n x y e =
     let bytes = little_bytes n x in
     let few = length-bytes_low_first 0 n x in
     let number : little_number n bytes ≡ y =
-        ap (little_number n) (sym (append-nil bytes)) ∙ little_from-bytes n 0 x [] ∙ ap (λ m. m % 256 ^ n) (div-one x) ∙ e in
+    ap (little_number n) (sym (append-nil bytes)) ∙ little_from-bytes n 0 x [] ∙ ap (λ m. m % 256 ^ n) (div-one x) ∙ e in
     sym (take_all n bytes (omega (arith, few)))
     ∙ sym (bytes_of_number n bytes (are_bytes 0 n x) (omega (arith, few)))
     ∙ ap (little_bytes n) number

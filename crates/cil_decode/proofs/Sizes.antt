@@ -1,8 +1,7 @@
 -- An instruction that is read has bytes, and ends in the code.
-use Rattle.std.proofs.Common.{◌≡◌, ℕ, suc, ◌+◌, ◌*◌, ◌^◌, ◌-◌, ◌<◌, ◌≤◌, Bool, true, false, cond, List, [], ◌∷◌, length, map, drop, Option, Some, None, Result, Ok, Err, refl, sym, ap, subst, arith, IfSome, ℤ, pos}
-use Rattle.std.specs.Prelude.{nat_le, nat_lt, slice_index}
+use Rattle.std.proofs.Common.{◌≡◌, ℕ, ◌+◌, ◌*◌, ◌<◌, ◌≤◌, Bool, true, false, cond, List, length, drop, Option, Some, None, Ok, refl, subst, arith, IfSome, pos}
+use Rattle.std.specs.Prelude.{nat_le, nat_lt}
 use Rattle.std.specs.Option.{option_map, option_and_then}
-use Rattle.std.specs.List.{range_with_len}
 use Rattle.std.proofs.lemmas.Bool.Decides.{nat_tests}
 use Rattle.std.proofs.lemmas.List.FromFn.{length-map-range_with_len}
 use Rattle.rtr_bytes.specs.Field.{field_at}
@@ -12,10 +11,8 @@ use Rattle.cil_decode.specs.declared.opcode.Operand.TheVariants as operands
 use Rattle.cil_decode.specs.declared.instr.Arg.{Arg}
 use Rattle.cil_decode.specs.declared.instr.Arg.TheVariants as args
 use Rattle.cil_decode.specs.declared.instr.Instr.{Instr}
-use Rattle.cil_decode.specs.declared.body.BodyRefusal.{BodyRefusal}
-use Rattle.cil_decode.specs.declared.body.BodyRefusal.TheVariants as refusals
 use Rattle.cil_decode.specs.Opcodes.{operand_of}
-use Rattle.cil_decode.specs.Instructions.{fixed_operand_at, form_in, form_size, instr, instr_at, instr_size, operand_at, operand_size, signed_at, switch_at, switch_operand_at, switch_target, target, with_arg, with_form, with_operand}
+use Rattle.cil_decode.specs.Instructions.{form_in, form_size, instr, instr_at, instr_size, operand_at, operand_size, signed_at, switch_at, switch_target, target, with_arg, with_form, with_operand}
 
 -- what holds of both sides of a test
 either_way : {X : Type 0} (P : X → Type 0) (b : Bool) (x y : X) → (b ≡ true → P x) → (b ≡ false → P y) → P (cond b x y)

@@ -4,7 +4,9 @@ ghost use Rattle.std.specs.Prelude.{◌≡◌, ◌≤◌};
 ghost use Rattle.cil_decode.specs.Instructions.{fixed_size};
 ghost use Rattle.cil_decode.specs.Opcodes.{find_opcode, has_form, opcode_of, operand_of};
 
-use crate::operation::{BinaryOperator, CheckedOperator, Comparison, IntegerType, Operation, ShiftOperator};
+use crate::operation::{
+    BinaryOperator, CheckedOperator, Comparison, IntegerType, Operation, ShiftOperator,
+};
 
 /// The operand that follows an opcode, by its bytes.
 #[derive(Clone, Copy, Debug, PartialEq, Eq)]
@@ -110,15 +112,39 @@ pub const OPCODES: [Opcode; 122] = [
     opcode!(0x2C, ShortTarget, Operation::BranchFalse), // brfalse.s
     opcode!(0x2D, ShortTarget, Operation::BranchTrue), // brtrue.s
     opcode!(0x2E, ShortTarget, Operation::Branch(Comparison::Equal)), // beq.s
-    opcode!(0x2F, ShortTarget, Operation::Branch(Comparison::GreaterOrEqual)), // bge.s
+    opcode!(
+        0x2F,
+        ShortTarget,
+        Operation::Branch(Comparison::GreaterOrEqual)
+    ), // bge.s
     opcode!(0x30, ShortTarget, Operation::Branch(Comparison::Greater)), // bgt.s
-    opcode!(0x31, ShortTarget, Operation::Branch(Comparison::LessOrEqual)), // ble.s
+    opcode!(
+        0x31,
+        ShortTarget,
+        Operation::Branch(Comparison::LessOrEqual)
+    ), // ble.s
     opcode!(0x32, ShortTarget, Operation::Branch(Comparison::Less)), // blt.s
     opcode!(0x33, ShortTarget, Operation::Branch(Comparison::NotEqual)), // bne.un.s
-    opcode!(0x34, ShortTarget, Operation::Branch(Comparison::GreaterOrEqualUnsigned)), // bge.un.s
-    opcode!(0x35, ShortTarget, Operation::Branch(Comparison::GreaterUnsigned)), // bgt.un.s
-    opcode!(0x36, ShortTarget, Operation::Branch(Comparison::LessOrEqualUnsigned)), // ble.un.s
-    opcode!(0x37, ShortTarget, Operation::Branch(Comparison::LessUnsigned)), // blt.un.s
+    opcode!(
+        0x34,
+        ShortTarget,
+        Operation::Branch(Comparison::GreaterOrEqualUnsigned)
+    ), // bge.un.s
+    opcode!(
+        0x35,
+        ShortTarget,
+        Operation::Branch(Comparison::GreaterUnsigned)
+    ), // bgt.un.s
+    opcode!(
+        0x36,
+        ShortTarget,
+        Operation::Branch(Comparison::LessOrEqualUnsigned)
+    ), // ble.un.s
+    opcode!(
+        0x37,
+        ShortTarget,
+        Operation::Branch(Comparison::LessUnsigned)
+    ), // blt.un.s
     opcode!(0x38, Target, Operation::Jump), // br
     opcode!(0x39, Target, Operation::BranchFalse), // brfalse
     opcode!(0x3A, Target, Operation::BranchTrue), // brtrue
@@ -128,24 +154,44 @@ pub const OPCODES: [Opcode; 122] = [
     opcode!(0x3E, Target, Operation::Branch(Comparison::LessOrEqual)), // ble
     opcode!(0x3F, Target, Operation::Branch(Comparison::Less)), // blt
     opcode!(0x40, Target, Operation::Branch(Comparison::NotEqual)), // bne.un
-    opcode!(0x41, Target, Operation::Branch(Comparison::GreaterOrEqualUnsigned)), // bge.un
+    opcode!(
+        0x41,
+        Target,
+        Operation::Branch(Comparison::GreaterOrEqualUnsigned)
+    ), // bge.un
     opcode!(0x42, Target, Operation::Branch(Comparison::GreaterUnsigned)), // bgt.un
-    opcode!(0x43, Target, Operation::Branch(Comparison::LessOrEqualUnsigned)), // ble.un
+    opcode!(
+        0x43,
+        Target,
+        Operation::Branch(Comparison::LessOrEqualUnsigned)
+    ), // ble.un
     opcode!(0x44, Target, Operation::Branch(Comparison::LessUnsigned)), // blt.un
     opcode!(0x45, Targets, Operation::Switch), // switch
     opcode!(0x58, Nothing, Operation::Binary(BinaryOperator::Add)), // add
     opcode!(0x59, Nothing, Operation::Binary(BinaryOperator::Subtract)), // sub
     opcode!(0x5A, Nothing, Operation::Binary(BinaryOperator::Multiply)), // mul
     opcode!(0x5B, Nothing, Operation::Binary(BinaryOperator::Divide)), // div
-    opcode!(0x5C, Nothing, Operation::Binary(BinaryOperator::DivideUnsigned)), // div.un
+    opcode!(
+        0x5C,
+        Nothing,
+        Operation::Binary(BinaryOperator::DivideUnsigned)
+    ), // div.un
     opcode!(0x5D, Nothing, Operation::Binary(BinaryOperator::Remainder)), // rem
-    opcode!(0x5E, Nothing, Operation::Binary(BinaryOperator::RemainderUnsigned)), // rem.un
+    opcode!(
+        0x5E,
+        Nothing,
+        Operation::Binary(BinaryOperator::RemainderUnsigned)
+    ), // rem.un
     opcode!(0x5F, Nothing, Operation::Binary(BinaryOperator::And)), // and
     opcode!(0x60, Nothing, Operation::Binary(BinaryOperator::Or)), // or
     opcode!(0x61, Nothing, Operation::Binary(BinaryOperator::Xor)), // xor
     opcode!(0x62, Nothing, Operation::Shift(ShiftOperator::Left)), // shl
     opcode!(0x63, Nothing, Operation::Shift(ShiftOperator::Right)), // shr
-    opcode!(0x64, Nothing, Operation::Shift(ShiftOperator::RightUnsigned)), // shr.un
+    opcode!(
+        0x64,
+        Nothing,
+        Operation::Shift(ShiftOperator::RightUnsigned)
+    ), // shr.un
     opcode!(0x65, Nothing, Operation::Negate), // neg
     opcode!(0x66, Nothing, Operation::Not), // not
     opcode!(0x67, Nothing, Operation::Convert(IntegerType::I1)), // conv.i1
@@ -179,16 +225,36 @@ pub const OPCODES: [Opcode; 122] = [
     opcode!(0xD1, Nothing, Operation::Convert(IntegerType::U2)), // conv.u2
     opcode!(0xD2, Nothing, Operation::Convert(IntegerType::U1)), // conv.u1
     opcode!(0xD6, Nothing, Operation::Checked(CheckedOperator::Add)), // add.ovf
-    opcode!(0xD7, Nothing, Operation::Checked(CheckedOperator::AddUnsigned)), // add.ovf.un
+    opcode!(
+        0xD7,
+        Nothing,
+        Operation::Checked(CheckedOperator::AddUnsigned)
+    ), // add.ovf.un
     opcode!(0xD8, Nothing, Operation::Checked(CheckedOperator::Multiply)), // mul.ovf
-    opcode!(0xD9, Nothing, Operation::Checked(CheckedOperator::MultiplyUnsigned)), // mul.ovf.un
+    opcode!(
+        0xD9,
+        Nothing,
+        Operation::Checked(CheckedOperator::MultiplyUnsigned)
+    ), // mul.ovf.un
     opcode!(0xDA, Nothing, Operation::Checked(CheckedOperator::Subtract)), // sub.ovf
-    opcode!(0xDB, Nothing, Operation::Checked(CheckedOperator::SubtractUnsigned)), // sub.ovf.un
+    opcode!(
+        0xDB,
+        Nothing,
+        Operation::Checked(CheckedOperator::SubtractUnsigned)
+    ), // sub.ovf.un
     opcode!(0xFE01, Nothing, Operation::Compare(Comparison::Equal)), // ceq
     opcode!(0xFE02, Nothing, Operation::Compare(Comparison::Greater)), // cgt
-    opcode!(0xFE03, Nothing, Operation::Compare(Comparison::GreaterUnsigned)), // cgt.un
+    opcode!(
+        0xFE03,
+        Nothing,
+        Operation::Compare(Comparison::GreaterUnsigned)
+    ), // cgt.un
     opcode!(0xFE04, Nothing, Operation::Compare(Comparison::Less)), // clt
-    opcode!(0xFE05, Nothing, Operation::Compare(Comparison::LessUnsigned)), // clt.un
+    opcode!(
+        0xFE05,
+        Nothing,
+        Operation::Compare(Comparison::LessUnsigned)
+    ), // clt.un
     opcode!(0xFE09, UInt16, Operation::LoadArgument(0)), // ldarg
     opcode!(0xFE0B, UInt16, Operation::StoreArgument(0)), // starg
     opcode!(0xFE0C, UInt16, Operation::LoadLocal(0)), // ldloc

@@ -197,7 +197,9 @@ fn with_number(operation: Operation, number: i64) -> Operation
         Operation::StoreArgument(_) => Operation::StoreArgument(index),
         Operation::LoadLocal(_) => Operation::LoadLocal(index),
         Operation::StoreLocal(_) => Operation::StoreLocal(index),
-        Operation::LoadInt32(_) => Operation::LoadInt32(((bits % 0x1_0000_0000) as u32).cast_signed()),
+        Operation::LoadInt32(_) => Operation::LoadInt32(
+            ((bits % 0x1_0000_0000) as u32).cast_signed(),
+        ),
         Operation::LoadInt64(_) => Operation::LoadInt64(number),
         _ => operation,
     }

@@ -176,7 +176,10 @@ fn text_of<R: Abort>(rt: &R, alloc: Global, code: &[u8]) -> Result<String, Fail>
     let mut text = String::new(alloc);
     for instr in &list {
         let operation = instr.operation().ok_or("no operation")?;
-        let line = format!(in alloc; "{} {:04x} {operation:?} {:?};", instr.at, instr.form, instr.arg)?;
+        let line = format!(in alloc;
+            "{} {:04x} {operation:?} {:?};",
+            instr.at, instr.form, instr.arg
+        )?;
         text.push_str(line.as_str())?;
     }
     Ok(text)

@@ -1,9 +1,7 @@
-use Rattle.std.proofs.Common.{rules, ◌≡◌, ℕ, ◌+◌, ◌<◌, ◌≤◌, List, [], ◌∷◌, ◌++◌, length, Ok, refl, sym, ◌∙◌, ap, subst, arith}
+use Rattle.std.proofs.Common.{rules, ℕ, ◌+◌, List, [], ◌∷◌, ◌++◌, sym, ap, subst, arith}
 use Rattle.std.proofs.lemmas.Grind.{common_steps}
-use Rattle.cil_decode.specs.declared.body.BodyRefusal.TheVariants as refusals
 use Rattle.cil_decode.specs.declared.instr.Instr.{Instr}
-use Rattle.cil_decode.specs.Bodies.{Follow, IsRefused}
-use Rattle.cil_decode.specs.Instructions.{instr_at, instr_size}
+use Rattle.cil_decode.specs.Bodies.{Follow}
 use Rattle.cil_decode.proofs.Sizes.{is_read}
 use Rattle.cil_decode.proofs.Followed.{follow_more, none_read, refused_so}
 use Rattle.cil_decode.proofs.body.read_all.Goals as goal
@@ -31,8 +29,8 @@ instructions-preserved c =
     record {
       within = omega (arith, size, inside);
       follow =
-        let there : ℕ → Type 0 = λ n. Follow c.args.code.now 0 (c.instructions.list.items ++ c.in_ok-instr.instr ∷ []) n in
-        let at_next = subst there (ap (λ n. c.instructions.at + n) (sym size)) followed in
-        let here : List Instr → Type 0 = λ is. Follow c.args.code.now 0 is (c.instructions.at + c.size-at.result) in
-        subst here (sym c.in_ok-push.ensures.items) at_next;
+          let there : ℕ → Type 0 = λ n. Follow c.args.code.now 0 (c.instructions.list.items ++ c.in_ok-instr.instr ∷ []) n in
+          let at_next = subst there (ap (λ n. c.instructions.at + n) (sym size)) followed in
+          let here : List Instr → Type 0 = λ is. Follow c.args.code.now 0 is (c.instructions.at + c.size-at.result) in
+          subst here (sym c.in_ok-push.ensures.items) at_next;
     }

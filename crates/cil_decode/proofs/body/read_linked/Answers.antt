@@ -1,4 +1,4 @@
-use Rattle.std.proofs.Common.{◌≡◌, ℕ, ◌<◌, List, length, get_or, sym, subst, arith}
+use Rattle.std.proofs.Common.{ℕ, ◌<◌, List, length, get_or, sym, subst}
 use Rattle.cil_decode.specs.declared.instr.Instr.{Instr}
 use Rattle.cil_decode.proofs.Followed.{begins_below}
 use Rattle.cil_decode.proofs.body.read_linked.Goals as goal

@@ -1,4 +1,4 @@
-use Rattle.std.proofs.Common.{arith, sym, ◌∙◌}
+use Rattle.std.proofs.Common.{arith}
 use Rattle.std.proofs.lemmas.Grind.{common_steps}
 use Rattle.cil_decode.proofs.Encoded.{encoded, ends_small, only_encoded}
 use Rattle.cil_decode.proofs.encode.encode_body.Goals as goal

@@ -1,5 +1,5 @@
-use Rattle.std.proofs.Common.{◌≡◌, ◌+◌, ◌≤◌, ℕ, length, Some, sym, ◌∙◌, ap, subst, arith}
-use Rattle.cil_decode.specs.Instructions.{form_size, instr_size, operand_at}
+use Rattle.std.proofs.Common.{◌≡◌, ◌+◌, ◌≤◌, length, Some, sym, ◌∙◌, arith}
+use Rattle.cil_decode.specs.Instructions.{form_size, operand_at}
 use Rattle.cil_decode.specs.Opcodes.{operand_of}
 use Rattle.cil_decode.proofs.Sizes.{some_ends, size_of}
 use Rattle.cil_decode.proofs.instr.Instr.read.Goals as goal
