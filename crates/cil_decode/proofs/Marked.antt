@@ -1,0 +1,30 @@
+-- The marks of the offsets at which instructions begin.
+use Rattle.std.proofs.Common.{◌≡◌, ℕ, ◌+◌, ◌<◌, ◌==◌, Bool, true, false, List, length, take, get_or, set, refl, sym, ◌∙◌, ap, subst, inl, inr}
+use Rattle.std.specs.Prelude.{◌||◌}
+use Rattle.std.proofs.lemmas.Bool.{cases_eq, eq-eqb, ne_eqb}
+use Rattle.std.proofs.lemmas.List.{get_or-set_same, get_or-set_other}
+use Rattle.std.proofs.lemmas.List.Folds.{list_any_more}
+use Rattle.cil_decode.specs.declared.instr.Instr.{Instr}
+use Rattle.cil_decode.specs.Bodies.{Marks, is_start}
+
+or_true : (b : Bool) → (b || true) ≡ true
+or_true true = refl
+or_true false = refl
+
+or_false : (b : Bool) → (b || false) ≡ b
+or_false true = refl
+or_false false = refl
+
+pub marks_more : (marks : List Bool) (list : List Instr) (i k : ℕ) (d : Instr) → i < length list → (get_or list i d).at ≡ k → k < length marks → Marks marks (take i list) → Marks (set marks k true) (take (i + 1) list)
+marks_more marks list i k d i_in same k_in so_far = λ at.
+    let more = list_any_more (λ (j : Instr). j.at == at) list i d i_in in
+    elim (cases_eq k at) [
+      | inl e ↦
+          let hit : ((get_or list i d).at == at) ≡ true = eq-eqb _ _ (same ∙ e) in
+          subst (λ (n : ℕ). get_or (set marks k true) n false ≡ true) e (get_or-set_same marks k true false k_in)
+          ∙ sym (more ∙ ap (λ b. is_start (take i list) at || b) hit ∙ or_true (is_start (take i list) at))
+      | inr ne ↦
+          let miss : ((get_or list i d).at == at) ≡ false = ne_eqb _ _ (λ e. ne (sym same ∙ e)) in
+          get_or-set_other marks k at true false (λ e. ne (sym e)) ∙ so_far at
+          ∙ sym (more ∙ ap (λ b. is_start (take i list) at || b) miss ∙ or_false (is_start (take i list) at))
+    ]

@@ -1,0 +1,5 @@
+pub mod Opcodes
+pub mod Operations
+pub mod Instructions
+pub mod Bodies
+pub mod Encoding
