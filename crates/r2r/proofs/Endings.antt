@@ -5,7 +5,7 @@ use Rattle.rtr_bytes.specs.Checks.{first_fault}
 use Rattle.rtr_outside.specs.Files.{Contents, Call, Read, IsKnownAs, IsKnownLonger, file_limit}
 use Rattle.rtr_outside.specs.Sink.{Appends, Rose}
 use Rattle.r2rdump.specs.Dump.{dump_checks, IsUntouched}
-use Rattle.r2r.specs.Outcome.{read_failed_line, malformed_line, too_long_line, Prints, Ends, IsFileReply, ReadFailed, TooLong, WasRead, BytesEnd, DumpEnds}
+use Rattle.r2r.specs.Outcome.{read_failed_line, malformed_line, too_long_line, Prints, Ends, ReadFailed, TooLong, WasRead, BytesEnd, DumpEnds}
 
 module _ {S : Type 0} (written : S → Option (List ℕ)) (faults : S → ℕ) where
   -- the line of a refusal was printed, or there was no memory for it
