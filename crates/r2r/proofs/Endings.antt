@@ -5,7 +5,7 @@ use Rattle.rtr_bytes.specs.Checks.{first_fault}
 use Rattle.rtr_outside.specs.Files.{Contents, Call, Read, IsKnownAs, IsKnownLonger, file_limit}
 use Rattle.rtr_outside.specs.Sink.{Appends, Rose}
 use Rattle.r2rdump.specs.Dump.{dump_checks, IsUntouched}
-use Rattle.r2r.specs.Outcome.{read_failed_line, malformed_line, too_long_line, Prints, Ends, IsFileReply, ReadFailed, TooLong, WasRead, BytesEnd, DumpEnds}
+use Rattle.r2r.specs.Outcome.{read_failed_line, malformed_line, too_long_line, Prints, Ends, ReadFailed, TooLong, WasRead, BytesEnd, DumpEnds}
 
 module _ {S : Type 0} (written : S → Option (List ℕ)) (faults : S → ℕ) where
   -- the line of a refusal was printed, or there was no memory for it
@@ -15,7 +15,8 @@ module _ {S : Type 0} (written : S → Option (List ℕ)) (faults : S → ℕ) w
 
   pub refuses : {E : Type 0} (line : Result (List ℕ) E) (wanted : List ℕ) (n : ℕ) (before after : S) (code : ℕ)
       → IfOk line (λ text. text ≡ wanted)
-      → MatchResult line (λ text. Prints written faults text before after × (code ≡ suc n)) (λ _. (code ≡ 7) × IsUntouched written faults before after)
+      → MatchResult line (λ text. Prints written faults text before after × (code ≡ suc n))
+      (λ _. (code ≡ 7) × IsUntouched written faults before after)
       → Refuses n wanted before after code
   refuses (Ok text) wanted n before after code is printed =
       let prints = subst (λ (t : List ℕ). Prints written faults t before after) is printed.0 in

@@ -34,7 +34,7 @@ find-map : (name : List ℕ) (xs : List File) → maps.find (slice_cmp nat_cmp) 
 find-map name [] = refl
 find-map name (x ∷ xs) =
     same_choice bytes_in (is_named name x) (eq_by_cmp (slice_cmp nat_cmp) name (string_bytes x.0)) x _ (find (is_named name) xs)
-        (texts_ties name (string_bytes x.0)) (find-map name xs)
+    (texts_ties name (string_bytes x.0)) (find-map name xs)
 
 -- the map of a list answers with the first file of a name
 get-file_map : (name : List ℕ) (xs : List File) → bytes_of (file_map xs) name ≡ option_map bytes_in (find (is_named name) xs)
@@ -72,13 +72,13 @@ get_at name xs at d is = get-file_map name xs ∙ ap (option_map bytes_in) (find
 found_after : (q name : List ℕ) (xs : List File) (at : ℕ) (old file : File) → position (is_named name) xs ≡ Some at
     → string_bytes file.0 ≡ string_bytes (get_or xs at old).0
     → (b : Bool) → bytes_eq q name ≡ b → option_map bytes_in (find (is_named q) (set xs at file)) ≡ cond b (Some (bytes_in file))
-        (option_map bytes_in (find (is_named q) xs))
+    (option_map bytes_in (find (is_named q) xs))
 found_after q name xs at old file is same true e =
     let q_is : q ≡ name = (bytes_eq-Decides q name).0 e in
     let place = position-Some (is_named name) xs at old is in
     let passes : is_named q file ≡ true = ap (λ n. bytes_eq n (string_bytes file.0)) q_is ∙ ap (bytes_eq name) same ∙ place.1 in
     let first : at ≡ position_or_len (is_named q) xs = first_place (is_named name) xs at is
-        ∙ ap (λ n. position_or_len (is_named n) xs) (sym q_is) in
+    ∙ ap (λ n. position_or_len (is_named n) xs) (sym q_is) in
     ap (option_map bytes_in) (find-set (is_named q) xs at file first place.0 passes)
 found_after q name xs at old file is same false e =
     let place = position-Some (is_named name) xs at old is in
@@ -105,7 +105,7 @@ pub file_map_push : (xs : List File) (file : File) → position (is_named (strin
 file_map_push xs file is =
     ap maps.from_entries (map-append entry_of xs (file ∷ []))
     ∙ maps.from_entries_push nat_list_cmp_total (maps.slice_cmp-IsAntisymmetric maps.nat_cmp-IsAntisymmetric) (map entry_of xs)
-        (string_bytes file.0) (bytes_in file)
+    (string_bytes file.0) (bytes_in file)
     (find-map (string_bytes file.0) xs ∙ ap (option_map bytes_in) (find_none (is_named (string_bytes file.0)) xs is))
 
 -- ---- what the files answer afterwards
@@ -123,7 +123,7 @@ pub bytes_of-with_file_other : (files : FileMap) (name bytes other : List ℕ) �
 bytes_of-with_file_other files name bytes other apart =
     maps.get-insert nat_list_cmp_total files name bytes other
     ∙ ap (λ b. cond b (Some bytes) (bytes_of files other))
-        (eq_by_name other name false (false_unless (bytes_eq other name) (λ e. apart ((bytes_eq-Decides other name).0 e))))
+    (eq_by_name other name false (false_unless (bytes_eq other name) (λ e. apart ((bytes_eq-Decides other name).0 e))))
 
 -- the same where a call wrote on success alone
 abbrev written_files : {T E : Type 0} → Result T E → FileMap → List ℕ → List ℕ → FileMap

@@ -13,4 +13,4 @@ pub appends_more : (text : List ℕ) (n k : ℕ) (old mid new : Option (List ℕ
     → Appends (take k (drop n text)) mid new → Appends (take (n + k) text) old new
 appends_more text n k old mid new first then =
     then ∙ ap (option_map (λ bytes. bytes ++ take k (drop n text))) first
-        ∙ after (take n text) (take k (drop n text)) (take (n + k) text) old (sym (take-add n k text))
+    ∙ after (take n text) (take k (drop n text)) (take (n + k) text) old (sym (take-add n k text))

@@ -61,7 +61,7 @@ call_code =
 abbrev pub files_code : Coded FilesInMemory
 files_code =
     code_by ((FileMap × List ℕ) × (ℕ × List Call))
-        (coded× (coded× file_map_code (coded_list coded_ℕ)) (coded× coded_ℕ (coded_list call_code)))
+    (coded× (coded× file_map_code (coded_list coded_ℕ)) (coded× coded_ℕ (coded_list call_code)))
     (λ m. ((m.files, m.fails), (m.calls, m.failed)))
     (λ p. record { files = p.0.0; fails = p.0.1; calls = p.1.0; failed = p.1.1 })
     (λ _. refl)

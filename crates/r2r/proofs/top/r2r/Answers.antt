@@ -1,5 +1,5 @@
 use Rattle.std.proofs.Common.{ℕ, List, refl, sym, subst}
-use Rattle.r2r.specs.Outcome.{Prints, DumpEnds}
+use Rattle.r2r.specs.Outcome.{Prints}
 use Rattle.r2r.proofs.CausesOf.{causes_of_end}
 use Rattle.r2r.proofs.top.r2r.Goals as goal
 

@@ -13,7 +13,7 @@ loop-rest-preserved g c =
     let next = c.split_at.result.1.now in
     let count : length text - length next ≡ n + k = omega (arith, c.split_at.ensures.back_len, c.loop-rest.invariant.shorter) in
     let piece = subst (λ (r : _). Appends (take k r) (sink.written c.loop-rest.out) (sink.written c.write.new.self))
-        c.loop-rest.invariant.left c.in_ok-taken.ensures.taken in
+    c.loop-rest.invariant.left c.in_ok-taken.ensures.taken in
     record {
       shorter = omega (arith, c.split_at.ensures.back_len, c.loop-rest.invariant.shorter);
       left = c.split_at.ensures.back ∙ ap (drop k) c.loop-rest.invariant.left ∙ drop-drop k n text

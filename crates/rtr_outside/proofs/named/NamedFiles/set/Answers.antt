@@ -7,7 +7,7 @@ pub returns-in-Some-clause-ok : goal.returns-in-Some-clause-ok
 returns-in-Some-clause-ok c =
     let place = rw c.deref.ensures.value at (sym c.in-Some.ensures) in
     file_map-set c.args.name.now c.self.inside.entries.items c.in-Some.at c.index_mut.result.now c.in_ok-bytes.bytes place
-        c.index_mut.ensures.value
+    c.index_mut.ensures.value
     ∙ cc (c.self.view_is, c.in_ok-bytes.ensures.items)
 
 pub returns-in_ok-push-in-None-clause-ok : goal.returns-in_ok-push-in-None-clause-ok
