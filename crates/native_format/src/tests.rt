@@ -4,6 +4,7 @@ ghost use Rattle.native_format.specs.Nibbles.{IsSlotList, at_slot};
 use super::*;
 use rtr_bytes::{Fault, Sequence};
 use std::alloc::{AllocError, Global};
+use std::process::Abort;
 use std::test::Fail;
 
 const ONE: [u8; 1] = [0x18];
@@ -79,7 +80,10 @@ fn lists<R: Abort>(rt: &R, alloc: Global, list: &[SlotRef], bytes: &[u8]) -> Res
 fn refuses<R: Abort>(rt: &R, alloc: Global, bytes: &[u8])
     requires { length bytes.now < 16 }
 {
-    assert_eq!(rt; read_nibbles(alloc, bytes, 0).err(), Some(ListRefusal::Malformed));
+    assert_eq!(rt;
+        read_nibbles(alloc, bytes, 0).err(),
+        Some(ListRefusal::Malformed)
+    );
 }
 
 #[test]
@@ -118,7 +122,10 @@ fn sparse_arrays_read(rt: HostRuntime) -> Result<(), Fail> {
     assert_eq!(rt; found(&one, 0), Ok(Some(3)));
     assert_eq!(rt; found(&one, 1), Ok(None));
     // The array of one element that the writer gives.
-    assert_eq!(rt; found(&[0x0C, 4, 0, 0, 0, 2, 2, 2, 2, 0x0C], 0), Ok(Some(9)));
+    assert_eq!(rt;
+        found(&[0x0C, 4, 0, 0, 0, 2, 2, 2, 2, 0x0C], 0),
+        Ok(Some(9))
+    );
     let two = [0x88, 0x02, 0x03, 0x80, 0x00, 0x08];
     let array = SparseArray::read(&two, 0).ok().ok_or("two")?;
     assert_eq!(rt; array.count(), 17);
