@@ -6,10 +6,12 @@ use Rattle.import_cells.specs.declared.event.CellEvent.{CellEvent}
 use Rattle.import_cells.specs.declared.event.CellEvent.TheVariants.{Loaded, Asked}
 use Rattle.import_cells.specs.Plan.{In, initial_of, bound_of, is_eager, first_of, IsWordOf, can_bind, IsReady, ready_cells}
 
+-- an event, and the worker whose it is
 pub record WorkerEvent : Type 0 where
   pub worker : ℕ
   pub event : CellEvent
 
+-- the value is there, and is this number
 abbrev pub same_value : Option ℕ → ℕ → Bool
 same_value None a = false
 same_value (Some v) a = v == a
@@ -20,7 +22,7 @@ asks [] = []
 asks (Asked c ∷ l) = c ∷ asks l
 asks (Loaded c a ∷ l) = asks l
 
--- the same before others that were asked
+-- the cells that are asked after one event more
 abbrev pub asked_on : CellEvent → List ℕ → List ℕ
 asked_on (Asked c) cs = c ∷ cs
 asked_on (Loaded c a) cs = cs
@@ -30,6 +32,7 @@ abbrev pub of_worker : ℕ → List WorkerEvent → List CellEvent
 of_worker w [] = []
 of_worker w (e ∷ es) = if e.worker == w then e.event ∷ of_worker w es else of_worker w es
 
+-- the first or the second fact
 abbrev pub OneOf : Bool → Type 0 → Type 0 → Type 0
 OneOf true A B = A
 OneOf false A B = B
@@ -45,6 +48,7 @@ module _ (plan : List CellPlan) where
   abbrev pub opening_of : ℕ → ℕ
   opening_of c = if is_eager plan c then value_of c else initial_of plan c
 
+  -- what an event makes of the word n of a cell
   abbrev pub word_by : CellEvent → ℕ → ℕ → ℕ
   word_by (Loaded d a) c n = n
   word_by (Asked d) c n = if c == d then value_of c else n
@@ -70,6 +74,7 @@ module _ (plan : List CellPlan) where
   IsCoreEvent es (Loaded c a) = a ≡ word_after es c
   IsCoreEvent es (Asked c) = can_bind plan c ≡ true
 
+  -- each event is one that the core can do after those before it
   abbrev pub IsCore : List WorkerEvent → Type 0
   IsCore [] = Unit {0}
   IsCore (e ∷ es) = IsCoreEvent es e.event × IsCore es
@@ -103,6 +108,7 @@ module _ (plan : List CellPlan) where
   shown_by (Asked c) = c ∷ []
   shown_by (Loaded c a) = if is_new c a then c ∷ first_of plan c else []
 
+  -- the cells that these events show to be bound
   abbrev pub shown : List CellEvent → List ℕ
   shown [] = []
   shown (e ∷ l) = shown_by e ++ shown l
@@ -122,6 +128,7 @@ module _ (plan : List CellPlan) where
   IsAllowed quiet l (Loaded c a) = AllowedAnswer quiet l c a
   IsAllowed quiet l (Asked c) = Unit {0}
 
+  -- the answers of one worker are allowed
   abbrev pub Allowed : Type 0 → List CellEvent → Type 0
   Allowed quiet [] = Unit {0}
   Allowed quiet (e ∷ l) = IsAllowed quiet l e × Allowed quiet l

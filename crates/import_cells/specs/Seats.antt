@@ -51,6 +51,7 @@ first_view plan = record { plan = plan; share = whole; asked = ready_cells plan;
 
 -- ---- what a call changes
 
+-- what a call adds to what is known with its seat
 abbrev pub after_event : SeatView → CellEvent → SeatView
 after_event v e = record { plan = v.plan; share = v.share; asked = asked_on e v.asked; seen = shown_by v.plan e ++ v.seen; log = e ∷ v.log }
 
@@ -67,6 +68,7 @@ kept_half v = record { plan = v.plan; share = v.share - v.share / 2; asked = v.a
 abbrev pub given_half : SeatView → SeatView
 given_half v = record { plan = v.plan; share = v.share / 2; asked = []; seen = v.seen; log = [] }
 
+-- a seat that takes another one in has both shares, and all that both asked and saw
 abbrev pub joined : SeatView → SeatView → SeatView
 joined v w = record { plan = v.plan; share = v.share + w.share; asked = v.asked ++ w.asked; seen = v.seen ++ w.seen; log = v.log }
 

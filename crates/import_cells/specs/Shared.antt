@@ -10,6 +10,7 @@ use Rattle.import_cells.specs.Plan.{In, initial_of, bound_of, first_of, IsReady,
 use Rattle.import_cells.specs.Core.{WorkerEvent, of_worker, word_after, asked_after, IsCore, AsksInOrder}
 use Rattle.import_cells.specs.Seats.{whole, after_event, IsNext}
 
+-- the shares of these views together
 abbrev pub shares : List SeatView → ℕ
 shares [] = 0
 shares (v ∷ vs) = v.share + shares vs
@@ -63,11 +64,14 @@ pub record Parts (plan : List CellPlan) (s : State (Unit {0}) SeatView) : Type 0
 
 -- ---- what a step says
 
+-- a seat's view, and its slots, of which it has none
 abbrev pub Sitter : Type 0
 Sitter = Me (Unit {0}) SeatView
 
+-- a load of a cell: the seat gains the event with the number that was found
 abbrev pub loaded : Step (Unit {0}) → Sitter → ℕ → Sitter → Type 0
 loaded st m a m' = (m'.1 ≡ m.1) × (m'.0 ≡ after_event m.0 (Loaded (st.word - 1) a)) × IsNext m.0 (Loaded (st.word - 1) a)
 
+-- an exchange that binds a cell
 abbrev pub asked : Step (Unit {0}) → Sitter → ℕ → Sitter → Type 0
 asked st m a m' = (m'.1 ≡ m.1) × (m'.0 ≡ after_event m.0 (Asked (st.word - 1))) × IsNext m.0 (Asked (st.word - 1))
