@@ -1,0 +1,7 @@
+//! The words of A64, both ways.
+#![tactic(auto)]
+
+mod inst;
+mod rows;
+
+pub use inst::Inst;
