@@ -5,7 +5,7 @@ use Rattle.std.specs.Option.{option_or}
 use Rattle.std.proofs.lemmas.Bool.{eqb-true, eq-eqb}
 use Rattle.std.proofs.lemmas.Option.{option_and_then_some}
 use Rattle.std.proofs.lemmas.List.Quantifiers.{position-Some}
-use Rattle.a64_code.proofs.Fields.{both, held, held_fit, whole_word}
+use Rattle.a64_code.proofs.Held.{both, held, held_fit, whole_word}
 use Rattle.a64_code.proofs.Written.{InOrder, is_in_order, in_order, written, written_fixed, written_below, written_held, read_back}
 use Rattle.a64_code.proofs.Searched.{rows_apart, found}
 use Rattle.a64_code.specs.declared.inst.Inst.{Inst}

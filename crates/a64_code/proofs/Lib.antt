@@ -1,6 +1,6 @@
 pub mod Positions
 pub mod Bits
-pub mod Fields
+pub mod Held
 pub mod Written
 pub mod Searched
 pub mod Inverse

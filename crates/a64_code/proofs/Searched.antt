@@ -1,12 +1,12 @@
 -- A search over rows: rows that cannot have a word are passed over.
-use Rattle.std.proofs.Common.{◌≡◌, ◌<◌, ◌≤◌, ◌+◌, ◌-◌, ◌*◌, ◌/◌, ◌%◌, ◌^◌, ◌==◌, ◌&&◌, ℕ, Bool, true, false, not, cond, List, [], ◌∷◌, ◌++◌, length, take, drop, filter, zero, suc, refl, sym, ap, ap₂, ◌∙◌, arith, bit_and, slice_index, position, Option, Some, None, option_and_then}
+use Rattle.std.proofs.Common.{◌≡◌, ◌≢◌, subst, ◌<◌, ◌≤◌, ◌+◌, ◌-◌, ◌*◌, ◌/◌, ◌%◌, ◌^◌, ◌==◌, ◌&&◌, ℕ, Bool, true, false, not, cond, List, [], ◌∷◌, ◌++◌, length, take, drop, filter, zero, suc, refl, sym, ap, ap₂, ◌∙◌, arith, bit_and, slice_index, position, Option, Some, None, option_and_then}
 use Rattle.std.specs.List.{list_all, list_any}
 use Rattle.std.specs.Option.{option_or}
 use Rattle.std.proofs.lemmas.Bool.{eqb-true, eq-eqb, not-true, false_from_ne_true}
 use Rattle.std.proofs.lemmas.Nat.{and_comm, and_assoc}
 use Rattle.std.proofs.lemmas.Nat.Bits.{and_high}
 use Rattle.a64_code.proofs.Positions.{position_nowhere}
-use Rattle.a64_code.proofs.Fields.{both}
+use Rattle.a64_code.proofs.Held.{both}
 use Rattle.a64_code.proofs.Written.{all_at}
 use Rattle.a64_code.specs.declared.inst.Inst.{Inst}
 use Rattle.a64_code.specs.Table.{Field, Row}
@@ -81,3 +81,32 @@ group_alone (row ∷ rows) word group g =
     by_test : (b : Bool) → outside_group group row ≡ b → by_rows rows word ≡ by_rows (in_group group rows) word → by_rows (row ∷ rows) word ≡ by_rows (cond b (in_group group rows) (row ∷ in_group group rows)) word
     by_test true e rest = ap (λ o. option_or o (by_rows rows word)) (group_passed row word group g e) ∙ rest
     by_test false e rest = ap (option_or (by_row row word)) rest
+
+-- so rows that have those of the group in common with others answer the same
+pub group_answers : (all rows : List Row) (word group : ℕ) → word / 2 ^ 24 % 32 ≡ group → in_group group rows ≡ in_group group all → by_rows rows word ≡ by_rows all word
+group_answers all rows word group g same =
+    group_alone rows word group g ∙ ap (λ rs. by_rows rs word) same ∙ sym (group_alone all word group g)
+
+-- ---- the same over some groups, one after another
+
+abbrev pub AllFrom : (ℕ → Type 0) → ℕ → ℕ → Type 0
+AllFrom P start zero = Unit {0}
+AllFrom P start (suc count) = P start × AllFrom P (start + 1) count
+
+from_range : (P : ℕ → Type 0) (start count n : ℕ) → AllFrom P start count → start ≤ n → n < start + count → P n
+from_range P start zero n holds low high = absurd (omega arith)
+from_range P start (suc count) n holds low high =
+    by_test (n == start) refl (λ (above : start + 1 ≤ n). from_range P (start + 1) count n holds.1 above (omega arith))
+  where
+    by_test : (b : Bool) → (n == start) ≡ b → (start + 1 ≤ n → P n) → P n
+    by_test true e later = subst P (sym (eqb-true n start e)) holds.0
+    by_test false e later =
+        let apart : n ≢ start = λ same. differ (sym e ∙ eq-eqb n start same) in
+        later (omega arith)
+      where
+        differ : false ≡ true → ⊥
+        differ d = cc
+
+pub groups_answer : (all rows : List Row) (word start count : ℕ) → AllFrom (λ group. in_group group rows ≡ in_group group all) start count → start ≤ word / 2 ^ 24 % 32 → word / 2 ^ 24 % 32 < start + count → by_rows rows word ≡ by_rows all word
+groups_answer all rows word start count same low high =
+    group_answers all rows word (word / 2 ^ 24 % 32) refl (from_range (λ group. in_group group rows ≡ in_group group all) start count (word / 2 ^ 24 % 32) same low high)

@@ -46,7 +46,7 @@ is_allowed (insts.SubRegister base rd rn imm6 rm shift) = nat_lt shift 3 && nat_
 is_allowed (insts.LogicalRegister base rd rn imm6 rm shift) = nat_lt imm6 (width base)
 is_allowed (insts.OrNotRegister base rd rn imm6 rm shift) = nat_lt imm6 (width base)
 is_allowed (insts.Bitfield base rd rn imms immr) = nat_lt imms (width base) && nat_lt immr (width base)
-is_allowed (insts.MoveWide base rd imm16 hw) = nat_lt (16 * hw) (width base)
+is_allowed (insts.MoveWide base rd imm16 hw) = nat_lt hw (width base / 16)
 is_allowed (insts.Pair base rt rn rt2 imm7) =
     (rn == 31 || not (rn == rt || rn == rt2)) && not (base == 1 && rt == rt2)
 is_allowed inst = true

@@ -1,5 +1,8 @@
 //! The instructions, one variant for each row of the table.
 
+ghost use Rattle.std.specs.Prelude.{◌≡◌};
+ghost use Rattle.a64_code.specs.Words.{is_allowed, width as width_of};
+
 /// An instruction. `base` is the place from 0 of its base among those of its row, in the order in which they are
 /// listed; the other fields are as they stand in the word, lowest first.
 #[derive(Clone, Copy)]
@@ -58,4 +61,32 @@ pub enum Inst {
     BranchRegister { base: u8, rn: u8 },
     /// CSEL and CSINC.
     ConditionalSelect { base: u8, rd: u8, rn: u8, cond: u32, rm: u8 },
+}
+
+impl Inst {
+    /// Whether the row's own condition holds.
+    pub(crate) fn is_allowed(self) -> bool
+        ensures { result ≡ is_allowed self }
+    {
+        match self {
+            Inst::AddRegister { base, imm6, shift, .. }
+            | Inst::SubRegister { base, imm6, shift, .. } => shift < 3 && imm6 < width(base),
+            Inst::LogicalRegister { base, imm6, .. } | Inst::OrNotRegister { base, imm6, .. } => {
+                imm6 < width(base)
+            }
+            Inst::Bitfield { base, imms, immr, .. } => imms < width(base) && immr < width(base),
+            Inst::MoveWide { base, hw, .. } => hw < width(base) / 16,
+            Inst::Pair { base, rt, rn, rt2, .. } => {
+                (rn == 31 || rn != rt && rn != rt2) && (base != 1 || rt != rt2)
+            }
+            _ => true,
+        }
+    }
+}
+
+/// How many bits the operation of a base has, where a row's bases are by turns of 32 and of 64.
+fn width(base: u8) -> u32
+    ensures { result ≡ width_of base }
+{
+    if base % 2 == 0 { 32 } else { 64 }
 }

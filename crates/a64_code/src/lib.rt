@@ -1,6 +1,8 @@
 //! The words of A64, both ways.
 #![tactic(auto)]
 
+mod decoding;
+mod fields;
 mod inst;
 mod rows;
 

@@ -1,0 +1,221 @@
+//! The instruction of a word.
+
+ghost use Rattle.std.specs.Prelude.{◌≡◌, ◌∷◌, []};
+ghost use Rattle.a64_code.specs.Words.{allowed as allowed_of, by_rows, instruction};
+ghost use Rattle.a64_code.specs.Table as table;
+
+use crate::fields::*;
+use crate::inst::Inst;
+use crate::rows::*;
+
+/// The instruction of a word, and `None` exactly where the word is outside the table. What the word has in bits 24 to 28
+/// says which rows it can have.
+pub fn decode(word: u32) -> Option<Inst>
+    ensures { result ≡ instruction word }
+{
+    match GROUP.of(word) {
+        0x08 | 0x09 => pairs(word),
+        0x0A => logical(word),
+        0x0B => add_subtract_register(word),
+        0x10 => pc_relative(word),
+        0x11 => add_subtract_immediate(word),
+        0x12 => move_wide(word),
+        0x13 => bitfield(word),
+        0x14..=0x17 => branches(word),
+        0x18 => register_offset(word),
+        0x19 => unsigned_offset(word),
+        0x1A => two_sources(word),
+        0x1B => three_sources(word),
+        _ => None,
+    }
+}
+
+/// The instruction, if its row's own condition allows it.
+fn allowed(inst: Inst) -> Option<Inst>
+    ensures { result ≡ allowed_of inst }
+{
+    if inst.is_allowed() { Some(inst) } else { None }
+}
+
+/// Load and store of a register pair.
+fn pairs(word: u32) -> Option<Inst>
+    ensures { result ≡ by_rows (table.pair ∷ []) word }
+{
+    let rt = RT.register(word);
+    let rn = RN.register(word);
+    let rt2 = RT2.register(word);
+    let imm7 = IMM7.of(word);
+    let base = PAIR.base_of(word)?;
+    allowed(Inst::Pair { base, rt, rn, rt2, imm7 })
+}
+
+/// Logical (shifted register).
+fn logical(word: u32) -> Option<Inst>
+    ensures { result ≡ by_rows (table.logical_register ∷ table.or_not_register ∷ []) word }
+{
+    let rd = RD.register(word);
+    let rn = RN.register(word);
+    let imm6 = IMM6.of(word);
+    let rm = RM.register(word);
+    let shift = SHIFT.of(word);
+    if let Some(base) = LOGICAL_REGISTER.base_of(word) {
+        return allowed(Inst::LogicalRegister { base, rd, rn, imm6, rm, shift });
+    }
+    let base = OR_NOT_REGISTER.base_of(word)?;
+    allowed(Inst::OrNotRegister { base, rd, rn, imm6, rm, shift })
+}
+
+/// Add and subtract (shifted register).
+fn add_subtract_register(word: u32) -> Option<Inst>
+    ensures { result ≡ by_rows (table.add_register ∷ table.sub_register ∷ []) word }
+{
+    let rd = RD.register(word);
+    let rn = RN.register(word);
+    let imm6 = IMM6.of(word);
+    let rm = RM.register(word);
+    let shift = SHIFT.of(word);
+    if let Some(base) = ADD_REGISTER.base_of(word) {
+        return allowed(Inst::AddRegister { base, rd, rn, imm6, rm, shift });
+    }
+    let base = SUB_REGISTER.base_of(word)?;
+    allowed(Inst::SubRegister { base, rd, rn, imm6, rm, shift })
+}
+
+/// PC-relative addressing.
+fn pc_relative(word: u32) -> Option<Inst>
+    ensures { result ≡ by_rows (table.pc_relative ∷ []) word }
+{
+    let rd = RD.register(word);
+    let immhi = IMMHI.of(word);
+    let immlo = IMMLO.of(word);
+    let base = PC_RELATIVE.base_of(word)?;
+    Some(Inst::PcRelative { base, rd, immhi, immlo })
+}
+
+/// Add and subtract (immediate).
+fn add_subtract_immediate(word: u32) -> Option<Inst>
+    ensures { result ≡ by_rows (table.add_immediate ∷ table.sub_immediate ∷ []) word }
+{
+    let rd = RD.register(word);
+    let rn = RN.register(word);
+    let imm12 = IMM12.of(word);
+    let sh = SH.of(word);
+    if let Some(base) = ADD_IMMEDIATE.base_of(word) {
+        return Some(Inst::AddImmediate { base, rd, rn, imm12, sh });
+    }
+    let base = SUB_IMMEDIATE.base_of(word)?;
+    Some(Inst::SubImmediate { base, rd, rn, imm12, sh })
+}
+
+/// Move wide (immediate).
+fn move_wide(word: u32) -> Option<Inst>
+    ensures { result ≡ by_rows (table.move_wide ∷ []) word }
+{
+    let rd = RD.register(word);
+    let imm16 = IMM16.of(word);
+    let hw = HW.of(word);
+    let base = MOVE_WIDE.base_of(word)?;
+    allowed(Inst::MoveWide { base, rd, imm16, hw })
+}
+
+/// Bitfield.
+fn bitfield(word: u32) -> Option<Inst>
+    ensures { result ≡ by_rows (table.bitfield ∷ []) word }
+{
+    let rd = RD.register(word);
+    let rn = RN.register(word);
+    let imms = IMMS.of(word);
+    let immr = IMMR.of(word);
+    let base = BITFIELD.base_of(word)?;
+    allowed(Inst::Bitfield { base, rd, rn, imms, immr })
+}
+
+/// Branches.
+fn branches(word: u32) -> Option<Inst>
+    ensures { result ≡ by_rows (table.branch ∷ table.branch_conditional ∷ table.compare_and_branch ∷ table.branch_register ∷ []) word }
+{
+    let imm19 = IMM19.of(word);
+    if let Some(base) = BRANCH.base_of(word) {
+        return Some(Inst::Branch { base, imm26: IMM26.of(word) });
+    }
+    if let Some(base) = BRANCH_CONDITIONAL.base_of(word) {
+        return Some(Inst::BranchConditional { base, cond: COND.of(word), imm19 });
+    }
+    if let Some(base) = COMPARE_AND_BRANCH.base_of(word) {
+        return Some(Inst::CompareAndBranch { base, rt: RT.register(word), imm19 });
+    }
+    let base = BRANCH_REGISTER.base_of(word)?;
+    Some(Inst::BranchRegister { base, rn: RN.register(word) })
+}
+
+/// Load and store (register offset).
+fn register_offset(word: u32) -> Option<Inst>
+    ensures { result ≡ by_rows (table.store_register ∷ table.load_register ∷ table.load_signed_register ∷ []) word }
+{
+    let rt = RT.register(word);
+    let rn = RN.register(word);
+    let s = S.of(word);
+    let rm = RM.register(word);
+    if let Some(base) = STORE_REGISTER.base_of(word) {
+        return Some(Inst::StoreRegister { base, rt, rn, s, rm });
+    }
+    if let Some(base) = LOAD_REGISTER.base_of(word) {
+        return Some(Inst::LoadRegister { base, rt, rn, s, rm });
+    }
+    let base = LOAD_SIGNED_REGISTER.base_of(word)?;
+    Some(Inst::LoadSignedRegister { base, rt, rn, s, rm })
+}
+
+/// Load and store (unsigned immediate).
+fn unsigned_offset(word: u32) -> Option<Inst>
+    ensures { result ≡ by_rows (table.store_immediate ∷ table.load_immediate ∷ table.load_signed_immediate_64 ∷ table.load_signed_immediate_32 ∷ []) word }
+{
+    let rt = RT.register(word);
+    let rn = RN.register(word);
+    let imm12 = IMM12.of(word);
+    if let Some(base) = STORE_IMMEDIATE.base_of(word) {
+        return Some(Inst::StoreImmediate { base, rt, rn, imm12 });
+    }
+    if let Some(base) = LOAD_IMMEDIATE.base_of(word) {
+        return Some(Inst::LoadImmediate { base, rt, rn, imm12 });
+    }
+    if let Some(base) = LOAD_SIGNED_IMMEDIATE_64.base_of(word) {
+        return Some(Inst::LoadSignedImmediate64 { base, rt, rn, imm12 });
+    }
+    let base = LOAD_SIGNED_IMMEDIATE_32.base_of(word)?;
+    Some(Inst::LoadSignedImmediate32 { base, rt, rn, imm12 })
+}
+
+/// Data processing (2 source) and conditional select.
+fn two_sources(word: u32) -> Option<Inst>
+    ensures { result ≡ by_rows (table.divide ∷ table.shift_variable ∷ table.conditional_select ∷ []) word }
+{
+    let rd = RD.register(word);
+    let rn = RN.register(word);
+    let rm = RM.register(word);
+    if let Some(base) = DIVIDE.base_of(word) {
+        return Some(Inst::Divide { base, rd, rn, rm });
+    }
+    if let Some(base) = SHIFT_VARIABLE.base_of(word) {
+        return Some(Inst::ShiftVariable { base, rd, rn, rm });
+    }
+    let base = CONDITIONAL_SELECT.base_of(word)?;
+    Some(Inst::ConditionalSelect { base, rd, rn, cond: CONDITION.of(word), rm })
+}
+
+/// Data processing (3 source).
+fn three_sources(word: u32) -> Option<Inst>
+    ensures { result ≡ by_rows (table.multiply_add ∷ table.multiply_long ∷ table.multiply_high ∷ []) word }
+{
+    let rd = RD.register(word);
+    let rn = RN.register(word);
+    let rm = RM.register(word);
+    if let Some(base) = MULTIPLY_ADD.base_of(word) {
+        return Some(Inst::MultiplyAdd { base, rd, rn, ra: RA.register(word), rm });
+    }
+    if let Some(base) = MULTIPLY_LONG.base_of(word) {
+        return Some(Inst::MultiplyLong { base, rd, rn, rm });
+    }
+    let base = MULTIPLY_HIGH.base_of(word)?;
+    Some(Inst::MultiplyHigh { base, rd, rn, rm })
+}
