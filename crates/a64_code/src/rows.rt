@@ -1,6 +1,7 @@
 //! The rows: which bits of a word are fixed, and the bases that they are one of.
 
-ghost use Rattle.std.specs.Prelude.{◌≡◌, ◌<◌, ◌≤◌, ◌==◌, length, position, bit_and, slice_index};
+ghost use Rattle.std.specs.Prelude.{◌≡◌, ◌<◌, ◌≤◌, ◌==◌, length, position, bit_and, slice_index, nat_le, IsTrue};
+ghost use Rattle.std.specs.List.{list_all};
 
 /// A row.
 #[derive(Clone, Copy)]
@@ -28,8 +29,10 @@ impl Row {
 
     /// The base at a place.
     pub fn base(self, place: u8) -> u32
-        requires { place < length self.bases.now }
-        ensures { result ≡ slice_index self.bases.now place }
+        requires within { place < length self.bases.now }
+        requires fixed { IsTrue (list_all (λ base. nat_le base self.mask) self.bases.now) }
+        ensures value { result ≡ slice_index self.bases.now place }
+        ensures masked { result ≤ self.mask }
     {
         self.bases[place as usize]
     }
