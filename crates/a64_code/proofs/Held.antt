@@ -7,7 +7,7 @@ use Rattle.std.proofs.lemmas.Nat.{and_comm, and_assoc, and_le_l, and_le_r, pow_p
 use Rattle.std.proofs.lemmas.Nat.Bits.{and_high}
 use Rattle.a64_code.proofs.Bits.{apart_within, masked_sum, sum_masked, sum_below}
 use Rattle.a64_code.specs.Table.{Field}
-use Rattle.a64_code.specs.Words.{bits, covered, mask, spread, Fit}
+use Rattle.a64_code.specs.Words.{bits, held, covered, mask, spread, Fit}
 
 pub both : (a b : Bool) → (a && b) ≡ true → (a ≡ true) × (b ≡ true)
 both true b h = (refl, h)
@@ -27,9 +27,6 @@ head_apart field fields h = eqb-true _ _ (both _ _ h).0
 
 pub tail_apart : (field : Field) (fields : List Field) → are_apart (field ∷ fields) ≡ true → are_apart fields ≡ true
 tail_apart field fields h = (both (bit_and (span field) (covered fields) == 0) _ h).1
-
-abbrev pub held : ℕ → List Field → List ℕ
-held word fields = map (λ field. bits field word) fields
 
 -- the bits of a word that fields cover are what they hold, at their places
 pub covered_bits : (word : ℕ) (fields : List Field) → are_apart fields ≡ true → bit_and word (covered fields) ≡ spread fields (held word fields)

@@ -5,23 +5,19 @@ use Rattle.std.specs.Option.{option_or}
 use Rattle.std.proofs.lemmas.Bool.{eqb-true, eq-eqb}
 use Rattle.std.proofs.lemmas.Option.{option_and_then_some}
 use Rattle.std.proofs.lemmas.List.Quantifiers.{position-Some}
-use Rattle.a64_code.proofs.Held.{both, held, held_fit, whole_word}
+use Rattle.a64_code.proofs.Held.{both, held_fit, whole_word}
 use Rattle.a64_code.proofs.Written.{InOrder, is_in_order, in_order, written, written_fixed, written_below, written_held, read_back}
 use Rattle.a64_code.proofs.Searched.{rows_apart, found}
 use Rattle.a64_code.specs.declared.inst.Inst.{Inst}
 use Rattle.a64_code.specs.declared.inst.Inst.TheVariants as insts
 use Rattle.a64_code.specs.Table.{Field, Row, Parts, parts, parts_of, table, add_immediate, sub_immediate, add_register, sub_register, logical_register, or_not_register, multiply_add, multiply_long, multiply_high, divide, shift_variable, bitfield, move_wide, store_immediate, load_immediate, load_signed_immediate_64, load_signed_immediate_32, store_register, load_register, load_signed_register, pair, pc_relative, branch, branch_conditional, compare_and_branch, branch_register, conditional_select}
-use Rattle.a64_code.specs.Words.{bits, covered, mask, spread, Fit, is_allowed, allowed, word_of, InRange, by_row, by_rows, instruction}
+use Rattle.a64_code.specs.Words.{bits, held, covered, mask, spread, Fit, is_allowed, allowed, word_of, InRange, IsWord, by_row, by_rows, instruction}
 
 -- ---- what is read by a row is written by it
 
 -- the parts of what a row makes are that row, the base, and what was in its fields
 abbrev pub Faithful : Row → Type 0
 Faithful row = (base : ℕ) (at : Field → ℕ) → parts_of (row.inst base at) ≡ parts row base (map at row.fields)
-
-pub record Meets (inst : Inst) (word : ℕ) : Type 0 where
-  pub range : InRange inst
-  pub spelled : word_of inst ≡ word
 
 abbrev pub WordOf : Parts → ℕ
 WordOf p = slice_index p.row.bases p.base + spread p.row.fields p.values
@@ -33,8 +29,8 @@ allowed_made inst other h = by_test (is_allowed inst) refl h
     by_test true e made = (e, cc)
     by_test false e made = absurd (cc)
 
-made_meets : (row : Row) → InOrder row → Faithful row → (word base : ℕ) → word < 2 ^ 32 → base < length row.bases → slice_index row.bases base ≡ bit_and word (mask row.fields) → IsTrue (is_allowed (row.inst base (λ field. bits field word))) → Meets (row.inst base (λ field. bits field word)) word
-made_meets row o faithful word base below within e ok =
+made_is_word : (row : Row) → InOrder row → Faithful row → (word base : ℕ) → word < 2 ^ 32 → base < length row.bases → slice_index row.bases base ≡ bit_and word (mask row.fields) → IsTrue (is_allowed (row.inst base (λ field. bits field word))) → IsWord (row.inst base (λ field. bits field word)) word
+made_is_word row o faithful word base below within e ok =
     let inst = row.inst base (λ field. bits field word) in
     let made : parts row base (held word row.fields) ≡ parts_of inst = sym (faithful base (λ field. bits field word)) in
     let HasBase : Parts → Type 0 = λ p. p.base < length p.row.bases in
@@ -44,39 +40,39 @@ made_meets row o faithful word base below within e ok =
       spelled = ap WordOf (sym made) ∙ ap (λ n. n + spread row.fields (held word row.fields)) e ∙ whole_word word row.fields o.apart o.small below
     }
 
-row_meets : (row : Row) → InOrder row → Faithful row → (word : ℕ) (inst : Inst) → word < 2 ^ 32 → by_row row word ≡ Some inst → Meets inst word
-row_meets row o faithful word inst below h =
+row_is_word : (row : Row) → InOrder row → Faithful row → (word : ℕ) (inst : Inst) → word < 2 ^ 32 → by_row row word ≡ Some inst → IsWord inst word
+row_is_word row o faithful word inst below h =
     option_and_then_some (λ base. allowed (row.inst base (λ field. bits field word))) (position (λ b. b == bit_and word (mask row.fields)) row.bases) inst h (λ base at made. by_base base (position-Some (λ b. b == bit_and word (mask row.fields)) row.bases base 0 at) made)
   where
-    by_base : (base : ℕ) → (base < length row.bases) × ((slice_index row.bases base == bit_and word (mask row.fields)) ≡ true) × ((k : ℕ) → k < base → (slice_index row.bases k == bit_and word (mask row.fields)) ≡ false) → allowed (row.inst base (λ field. bits field word)) ≡ Some inst → Meets inst word
+    by_base : (base : ℕ) → (base < length row.bases) × ((slice_index row.bases base == bit_and word (mask row.fields)) ≡ true) × ((k : ℕ) → k < base → (slice_index row.bases k == bit_and word (mask row.fields)) ≡ false) → allowed (row.inst base (λ field. bits field word)) ≡ Some inst → IsWord inst word
     by_base base found made =
         let same = allowed_made (row.inst base (λ field. bits field word)) inst made in
-        let P : Inst → Type 0 = λ i. Meets i word in
-        subst P same.1 (made_meets row o faithful word base below found.0 (eqb-true _ _ found.1) same.0)
+        let P : Inst → Type 0 = λ i. IsWord i word in
+        subst P same.1 (made_is_word row o faithful word base below found.0 (eqb-true _ _ found.1) same.0)
 
 -- rows that are in order, and whose instructions are faithful
 abbrev pub AllSound : List Row → Type 0
 AllSound [] = Unit {0}
 AllSound (row ∷ rows) = (in_order row ≡ true) × Faithful row × AllSound rows
 
-rows_meet : (rows : List Row) → AllSound rows → (word : ℕ) (inst : Inst) → word < 2 ^ 32 → by_rows rows word ≡ Some inst → Meets inst word
-rows_meet [] sound word inst below h = absurd (cc)
-rows_meet (row ∷ rows) sound word inst below h =
-    by_first (by_row row word) refl (rows_meet rows sound.2 word inst below) h
+rows_are_words : (rows : List Row) → AllSound rows → (word : ℕ) (inst : Inst) → word < 2 ^ 32 → by_rows rows word ≡ Some inst → IsWord inst word
+rows_are_words [] sound word inst below h = absurd (cc)
+rows_are_words (row ∷ rows) sound word inst below h =
+    by_first (by_row row word) refl (rows_are_words rows sound.2 word inst below) h
   where
-    by_first : (o : Option Inst) → by_row row word ≡ o → (by_rows rows word ≡ Some inst → Meets inst word) → option_or o (by_rows rows word) ≡ Some inst → Meets inst word
+    by_first : (o : Option Inst) → by_row row word ≡ o → (by_rows rows word ≡ Some inst → IsWord inst word) → option_or o (by_rows rows word) ≡ Some inst → IsWord inst word
     by_first None e later made = later made
     by_first (Some other) e later made =
-        row_meets row (is_in_order row sound.0) sound.1 word inst below (e ∙ made)
+        row_is_word row (is_in_order row sound.0) sound.1 word inst below (e ∙ made)
 
-table_sound : AllSound table
+pub table_sound : AllSound table
 table_sound =
     (refl, λ base at. refl, (refl, λ base at. refl, (refl, λ base at. refl, (refl, λ base at. refl, (refl, λ base at. refl, (refl, λ base at. refl, (refl, λ base at. refl, (refl, λ base at. refl, (refl, λ base at. refl, (refl, λ base at. refl, (refl, λ base at. refl, (refl, λ base at. refl, (refl, λ base at. refl, (refl, λ base at. refl, (refl, λ base at. refl, (refl, λ base at. refl, (refl, λ base at. refl, (refl, λ base at. refl, (refl, λ base at. refl, (refl, λ base at. refl, (refl, λ base at. refl, (refl, λ base at. refl, (refl, λ base at. refl, (refl, λ base at. refl, (refl, λ base at. refl, (refl, λ base at. refl, (refl, λ base at. refl, tt)))))))))))))))))))))))))))
 
 -- the instruction of a word is in range, and the word is its
-pub instruction_meets : (word : ℕ) (inst : Inst) → word < 2 ^ 32 → instruction word ≡ Some inst → Meets inst word
+pub instruction_is_word : (word : ℕ) (inst : Inst) → word < 2 ^ 32 → instruction word ≡ Some inst → IsWord inst word
 unfolding instruction
-instruction_meets word inst below h = rows_meet table table_sound word inst below h
+instruction_is_word word inst below h = rows_are_words table table_sound word inst below h
 
 -- ---- what is written by a row is read by the table
 

@@ -4,3 +4,4 @@ pub mod Held
 pub mod Written
 pub mod Searched
 pub mod Inverse
+pub mod Outside

@@ -7,10 +7,10 @@ use Rattle.std.proofs.lemmas.List.Quantifiers.{position-Some}
 use Rattle.std.proofs.lemmas.Nat.{and_comm, and_assoc}
 use Rattle.std.proofs.lemmas.Nat.Bits.{and_high}
 use Rattle.a64_code.proofs.Positions.{position_here, position_nowhere}
-use Rattle.a64_code.proofs.Held.{Apart, both, are_apart, held, held_fit, held_back, whole_word, fixed_bits, word_below}
+use Rattle.a64_code.proofs.Held.{Apart, both, are_apart, held_fit, held_back, whole_word, fixed_bits, word_below}
 use Rattle.a64_code.specs.declared.inst.Inst.{Inst}
 use Rattle.a64_code.specs.Table.{Field, Row, Parts, parts, parts_of}
-use Rattle.a64_code.specs.Words.{bits, covered, mask, spread, Fit, is_allowed, allowed, word_of, InRange, by_row, by_rows}
+use Rattle.a64_code.specs.Words.{bits, held, covered, mask, spread, Fit, is_allowed, allowed, word_of, InRange, by_row, by_rows}
 
 -- the fields share no bit, and the bases are words that share none with them
 abbrev pub is_base : ℕ → ℕ → Bool

@@ -11,6 +11,10 @@ use Rattle.a64_code.specs.Table.{Field, Row, Parts, parts_of, table}
 abbrev pub bits : Field → ℕ → ℕ
 bits field word = word / 2 ^ field.place % 2 ^ field.width
 
+-- what it has in each of some fields
+abbrev pub held : ℕ → List Field → List ℕ
+held word fields = map (λ field. bits field word) fields
+
 -- the bits of a word that the fields cover
 abbrev pub covered : List Field → ℕ
 covered [] = 0
@@ -64,6 +68,11 @@ pub record InRange (inst : Inst) : Type 0 where
   pub fields : Fit (parts_of inst).row.fields (parts_of inst).values
   pub allowed : IsTrue (is_allowed inst)
 
+-- the word is that of the instruction
+pub record IsWord (inst : Inst) (word : ℕ) : Type 0 where
+  pub range : InRange inst
+  pub spelled : word_of inst ≡ word
+
 abbrev pub allowed : Inst → Option Inst
 allowed inst = cond (is_allowed inst) (Some inst) None
 
@@ -80,3 +89,8 @@ by_rows (row ∷ rows) word = option_or (by_row row word) (by_rows rows word)
 -- by the table; None where the word is outside
 unfoldable pub instruction : ℕ → Option Inst
 instruction word = by_rows table word
+
+-- The word is none of the row's: it has none of the bases in the fixed bits, or the row's own condition fails.
+abbrev pub HasNot : ℕ → Row → Type 0
+HasNot word row =
+    (base : ℕ) → base < length row.bases → bit_and word (mask row.fields) ≡ slice_index row.bases base → is_allowed (row.inst base (λ field. bits field word)) ≡ false

@@ -5,8 +5,10 @@ mod decoding;
 mod encoding;
 mod fields;
 mod inst;
+mod laws;
 mod rows;
 
 pub use decoding::decode;
 pub use encoding::encode;
 pub use inst::Inst;
+pub use laws::{rows_fix_bits, words_read_back};
