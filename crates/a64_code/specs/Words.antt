@@ -73,6 +73,16 @@ pub record IsWord (inst : Inst) (word : ℕ) : Type 0 where
   pub range : InRange inst
   pub spelled : word_of inst ≡ word
 
+-- the same as tests
+abbrev pub fit : List Field → List ℕ → Bool
+fit [] [] = true
+fit (field ∷ fields) (value ∷ values) = nat_lt value (2 ^ field.width) && fit fields values
+fit fields values = false
+
+abbrev pub parts_fit : Inst → Bool
+parts_fit inst =
+    nat_lt (parts_of inst).base (length (parts_of inst).row.bases) && fit (parts_of inst).row.fields (parts_of inst).values
+
 abbrev pub allowed : Inst → Option Inst
 allowed inst = cond (is_allowed inst) (Some inst) None
 

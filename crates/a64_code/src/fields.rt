@@ -1,6 +1,6 @@
 //! The fields of a word.
 
-ghost use Rattle.std.specs.Prelude.{◌≡◌, ◌<◌, ◌≤◌, ◌+◌, ◌*◌, ◌/◌, ◌%◌, ◌^◌};
+ghost use Rattle.std.specs.Prelude.{◌≡◌, ◌<◌, ◌≤◌, ◌+◌, ◌*◌, ◌/◌, ◌%◌, ◌^◌, nat_lt};
 
 /// A field: the place of its lowest bit, and how many bits it has.
 #[derive(Clone, Copy)]
@@ -27,6 +27,14 @@ impl Field {
         ensures { result ≡ word / 2 ^ self.place % 2 ^ self.width }
     {
         self.of(word) as u8
+    }
+
+    /// Whether a value fits the field.
+    pub fn fits(self, value: u32) -> bool
+        requires { self.width < 32 }
+        ensures { result ≡ nat_lt value (2 ^ self.width) }
+    {
+        value < 1 << self.width
     }
 
     /// A value at its place.

@@ -5,7 +5,7 @@ ghost use Rattle.a64_code.specs.Words.{is_allowed, width as width_of};
 
 /// An instruction. `base` is the place from 0 of its base among those of its row, in the order in which they are
 /// listed; the other fields are as they stand in the word, lowest first.
-#[derive(Clone, Copy)]
+#[derive(Clone, Copy, Debug, PartialEq, Eq)]
 pub enum Inst {
     /// ADD and ADDS (immediate).
     AddImmediate { base: u8, rd: u8, rn: u8, imm12: u32, sh: u32 },

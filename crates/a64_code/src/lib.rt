@@ -6,6 +6,7 @@ mod encoding;
 mod fields;
 mod inst;
 mod laws;
+mod range;
 mod rows;
 
 pub use decoding::decode;

@@ -1,6 +1,6 @@
 //! The rows: which bits of a word are fixed, and the bases that they are one of.
 
-ghost use Rattle.std.specs.Prelude.{◌≡◌, ◌<◌, ◌≤◌, ◌==◌, length, position, bit_and, slice_index, nat_le, IsTrue};
+ghost use Rattle.std.specs.Prelude.{◌≡◌, ◌<◌, ◌≤◌, ◌==◌, length, position, bit_and, slice_index, nat_le, nat_lt, IsTrue};
 ghost use Rattle.std.specs.List.{list_all};
 
 /// A row.
@@ -25,6 +25,13 @@ impl Row {
             }
         }
         None
+    }
+
+    /// Whether there is a base at a place.
+    pub fn has(self, place: u8) -> bool
+        ensures { result ≡ nat_lt place (length self.bases.now) }
+    {
+        (place as usize) < self.bases.len()
     }
 
     /// The base at a place.
