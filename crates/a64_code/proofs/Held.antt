@@ -98,7 +98,7 @@ pub spread_injective : (fields : List Field) (values others : List ℕ) → are_
 spread_injective [] [] [] h fit other e = refl
 spread_injective (field ∷ fields) (value ∷ values) (other ∷ others) h fit fits e =
     let first : value * 2 ^ field.place ≡ other * 2 ^ field.place =
-        sym (first_part field fields value values h fit) ∙ ap (λ x. bit_and x (span field)) e ∙ first_part field fields other others h fits in
+    sym (first_part field fields value values h fit) ∙ ap (λ x. bit_and x (span field)) e ∙ first_part field fields other others h fits in
     let rest : spread fields values ≡ spread fields others = omega (arith, first, e) in
     ap₂ (λ x xs. x ∷ xs) (same_value field value other first) (spread_injective fields values others (tail_apart field fields h) fit.1 fits.1 rest)
 spread_injective [] (value ∷ values) others h fit other e = absurd fit
@@ -112,7 +112,7 @@ held_back fixed fields values h fit apart =
     let word = fixed + spread fields values in
     let inside : bit_and (spread fields values) (covered fields) ≡ spread fields values = spread_within fields values h fit in
     let shared : Apart fixed (spread fields values) =
-        and_comm fixed (spread fields values) ∙ apart_within (spread fields values) (covered fields) fixed inside (and_comm (covered fields) fixed ∙ apart) in
+    and_comm fixed (spread fields values) ∙ apart_within (spread fields values) (covered fields) fixed inside (and_comm (covered fields) fixed ∙ apart) in
     spread_injective fields (held word fields) values h (held_fit word fields) fit (sym (covered_bits word fields h) ∙ masked_sum fixed (spread fields values) (covered fields) shared ∙ ap₂ (λ x y. x + y) apart inside ∙ plus (spread fields values))
   where
     plus : (n : ℕ) → 0 + n ≡ n
@@ -129,9 +129,9 @@ pub word_below : (base : ℕ) (fields : List Field) (values : List ℕ) → are_
 word_below base fields values h small within apart fit =
     let inside : bit_and (spread fields values) (covered fields) ≡ spread fields values = spread_within fields values h fit in
     let shared : Apart base (spread fields values) =
-        and_comm base (spread fields values) ∙ apart_within (spread fields values) (covered fields) base inside (and_comm (covered fields) base ∙ apart) in
+    and_comm base (spread fields values) ∙ apart_within (spread fields values) (covered fields) base inside (and_comm (covered fields) base ∙ apart) in
     let part : spread fields values ≤ covered fields =
-        let P : ℕ → Type 0 = λ n. n ≤ covered fields in subst P inside (and_le_r (spread fields values) (covered fields)) in
+    let P : ℕ → Type 0 = λ n. n ≤ covered fields in subst P inside (and_le_r (spread fields values) (covered fields)) in
     sum_below 32 base (spread fields values) shared within (omega arith)
 
 -- the fixed bits of a base and values at their places are the base
@@ -141,5 +141,5 @@ fixed_bits base fields values h small within apart fit =
     let below : word < 2 ^ 32 = word_below base fields values h small within apart fit in
     let e : held word fields ≡ values = held_back base fields values h fit apart in
     let all : bit_and word (mask fields) + spread fields values ≡ word =
-        ap (λ vs. bit_and word (mask fields) + spread fields vs) (sym e) ∙ whole_word word fields h small below in
+    ap (λ vs. bit_and word (mask fields) + spread fields vs) (sym e) ∙ whole_word word fields h small below in
     omega (arith, all)

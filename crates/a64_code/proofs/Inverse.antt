@@ -37,7 +37,7 @@ made_is_word row o faithful word base below within e ok =
     let HasFields : Parts → Type 0 = λ p. Fit p.row.fields p.values in
     record {
       range = record { base = subst HasBase made within; fields = subst HasFields made (held_fit word row.fields); allowed = ok };
-      spelled = ap WordOf (sym made) ∙ ap (λ n. n + spread row.fields (held word row.fields)) e ∙ whole_word word row.fields o.apart o.small below
+      spelled = ap WordOf (sym made) ∙ ap (λ n. n + spread row.fields (held word row.fields)) e ∙ whole_word word row.fields o.apart o.small below;
     }
 
 row_is_word : (row : Row) → InOrder row → Faithful row → (word : ℕ) (inst : Inst) → word < 2 ^ 32 → by_row row word ≡ Some inst → IsWord inst word
@@ -81,9 +81,9 @@ written_found before rest row ordered apart inst base values within fit ok rebui
     let word = written row base values in
     let o = is_in_order row ordered in
     let here : by_row row word ≡ Some inst =
-        read_back row o base values within fit
-        ∙ ap allowed (rebuilt word (written_held row o base values within fit))
-        ∙ ap (λ b. cond b (Some inst) None) ok in
+    read_back row o base values within fit
+    ∙ ap allowed (rebuilt word (written_held row o base values within fit))
+    ∙ ap (λ b. cond b (Some inst) None) ok in
     found before rest row word base inst apart within (written_fixed row o base values within fit) here
 
 -- the instruction of an instruction's word is the instruction

@@ -41,6 +41,7 @@ outside_words word below = (apart, none)
       where
         differ : Some inst ≡ None → ⊥
         differ d = cc
+
     none : ((inst : Inst) → InRange inst → word_of inst ≢ word) → instruction word ≡ None
     none never = by_answer (instruction word) refl
       where

@@ -61,7 +61,7 @@ is_in_order row h =
       small = ltb-true _ _ small.0;
       words = λ k within. ltb-true _ _ (one k within).0;
       clear = λ k within. eqb-true _ _ (one k within).1;
-      distinct = λ j k before within. distinct_at row.bases j k bases.1 before within
+      distinct = λ j k before within. distinct_at row.bases j k bases.1 before within;
     }
 
 -- ---- what is written by a row is read by it

@@ -1,19 +1,35 @@
 //! The instruction of a word.
 
-ghost use Rattle.std.specs.Prelude.{◌≡◌, ◌∷◌, []};
-ghost use Rattle.a64_code.specs.Words.{allowed as allowed_of, by_rows, instruction};
+ghost use Rattle.std.specs.Prelude.{◌≡◌, ◌≢◌, ◌↔◌, ◌∷◌, [], IfSome, IsNone};
 ghost use Rattle.a64_code.specs.Table as table;
+ghost use Rattle.a64_code.specs.Words.{InRange, IsWord, allowed as allowed_of, by_rows, instruction, word_of};
+ghost use Rattle.a64_code.specs.declared.inst.Inst.{Inst};
 
-use crate::fields::*;
+use crate::fields::{
+    COND, CONDITION, GROUP, HW, IMM6, IMM7, IMM12, IMM16, IMM19, IMM26, IMMHI, IMMLO, IMMR, IMMS,
+    RA, RD, RM, RN, RT, RT2, S, SH, SHIFT,
+};
 use crate::inst::Inst;
-use crate::rows::*;
+use crate::laws::words_read_back;
+use crate::rows;
 
-/// The instruction of a word, and `None` exactly where the word is outside the table. What the word has in bits 24 to 28
-/// says which rows it can have.
+/// The instruction of a word, and `None` exactly where the word is outside the table.
 pub fn decode(word: u32) -> Option<Inst>
+    ensures value { result ≡ instruction word }
+    // Its fields are in range, and the word is its own.
+    ensures written_back { IfSome result (λ inst. IsWord inst word) }
+    // Outside are the words of no instruction.
+    ensures outside { IsNone result ↔ ((inst : Inst) → InRange inst → word_of inst ≢ word) }
+{
+    words_read_back();
+    by_group(word)
+}
+
+/// What a word has in bits 24 to 28 leaves few rows that it can have.
+fn by_group(word: u32) -> Option<Inst>
     ensures { result ≡ instruction word }
 {
-    match GROUP.of(word) {
+    match GROUP.number(word) {
         0x08 | 0x09 => pairs(word),
         0x0A => logical(word),
         0x0B => add_subtract_register(word),
@@ -44,9 +60,15 @@ fn pairs(word: u32) -> Option<Inst>
     let rt = RT.register(word);
     let rn = RN.register(word);
     let rt2 = RT2.register(word);
-    let imm7 = IMM7.of(word);
-    let base = PAIR.base_of(word)?;
-    allowed(Inst::Pair { base, rt, rn, rt2, imm7 })
+    let imm7 = IMM7.number(word);
+    let base = rows::PAIR.base_of(word)?;
+    allowed(Inst::Pair {
+        base,
+        rt,
+        rn,
+        rt2,
+        imm7,
+    })
 }
 
 /// Logical (shifted register).
@@ -55,14 +77,28 @@ fn logical(word: u32) -> Option<Inst>
 {
     let rd = RD.register(word);
     let rn = RN.register(word);
-    let imm6 = IMM6.of(word);
+    let imm6 = IMM6.number(word);
     let rm = RM.register(word);
-    let shift = SHIFT.of(word);
-    if let Some(base) = LOGICAL_REGISTER.base_of(word) {
-        return allowed(Inst::LogicalRegister { base, rd, rn, imm6, rm, shift });
+    let shift = SHIFT.number(word);
+    if let Some(base) = rows::LOGICAL_REGISTER.base_of(word) {
+        return allowed(Inst::LogicalRegister {
+            base,
+            rd,
+            rn,
+            imm6,
+            rm,
+            shift,
+        });
     }
-    let base = OR_NOT_REGISTER.base_of(word)?;
-    allowed(Inst::OrNotRegister { base, rd, rn, imm6, rm, shift })
+    let base = rows::OR_NOT_REGISTER.base_of(word)?;
+    allowed(Inst::OrNotRegister {
+        base,
+        rd,
+        rn,
+        imm6,
+        rm,
+        shift,
+    })
 }
 
 /// Add and subtract (shifted register).
@@ -71,14 +107,28 @@ fn add_subtract_register(word: u32) -> Option<Inst>
 {
     let rd = RD.register(word);
     let rn = RN.register(word);
-    let imm6 = IMM6.of(word);
+    let imm6 = IMM6.number(word);
     let rm = RM.register(word);
-    let shift = SHIFT.of(word);
-    if let Some(base) = ADD_REGISTER.base_of(word) {
-        return allowed(Inst::AddRegister { base, rd, rn, imm6, rm, shift });
+    let shift = SHIFT.number(word);
+    if let Some(base) = rows::ADD_REGISTER.base_of(word) {
+        return allowed(Inst::AddRegister {
+            base,
+            rd,
+            rn,
+            imm6,
+            rm,
+            shift,
+        });
     }
-    let base = SUB_REGISTER.base_of(word)?;
-    allowed(Inst::SubRegister { base, rd, rn, imm6, rm, shift })
+    let base = rows::SUB_REGISTER.base_of(word)?;
+    allowed(Inst::SubRegister {
+        base,
+        rd,
+        rn,
+        imm6,
+        rm,
+        shift,
+    })
 }
 
 /// PC-relative addressing.
@@ -86,10 +136,15 @@ fn pc_relative(word: u32) -> Option<Inst>
     ensures { result ≡ by_rows (table.pc_relative ∷ []) word }
 {
     let rd = RD.register(word);
-    let immhi = IMMHI.of(word);
-    let immlo = IMMLO.of(word);
-    let base = PC_RELATIVE.base_of(word)?;
-    Some(Inst::PcRelative { base, rd, immhi, immlo })
+    let immhi = IMMHI.number(word);
+    let immlo = IMMLO.number(word);
+    let base = rows::PC_RELATIVE.base_of(word)?;
+    Some(Inst::PcRelative {
+        base,
+        rd,
+        immhi,
+        immlo,
+    })
 }
 
 /// Add and subtract (immediate).
@@ -98,13 +153,25 @@ fn add_subtract_immediate(word: u32) -> Option<Inst>
 {
     let rd = RD.register(word);
     let rn = RN.register(word);
-    let imm12 = IMM12.of(word);
-    let sh = SH.of(word);
-    if let Some(base) = ADD_IMMEDIATE.base_of(word) {
-        return Some(Inst::AddImmediate { base, rd, rn, imm12, sh });
+    let imm12 = IMM12.number(word);
+    let sh = SH.number(word);
+    if let Some(base) = rows::ADD_IMMEDIATE.base_of(word) {
+        return Some(Inst::AddImmediate {
+            base,
+            rd,
+            rn,
+            imm12,
+            sh,
+        });
     }
-    let base = SUB_IMMEDIATE.base_of(word)?;
-    Some(Inst::SubImmediate { base, rd, rn, imm12, sh })
+    let base = rows::SUB_IMMEDIATE.base_of(word)?;
+    Some(Inst::SubImmediate {
+        base,
+        rd,
+        rn,
+        imm12,
+        sh,
+    })
 }
 
 /// Move wide (immediate).
@@ -112,10 +179,15 @@ fn move_wide(word: u32) -> Option<Inst>
     ensures { result ≡ by_rows (table.move_wide ∷ []) word }
 {
     let rd = RD.register(word);
-    let imm16 = IMM16.of(word);
-    let hw = HW.of(word);
-    let base = MOVE_WIDE.base_of(word)?;
-    allowed(Inst::MoveWide { base, rd, imm16, hw })
+    let imm16 = IMM16.number(word);
+    let hw = HW.number(word);
+    let base = rows::MOVE_WIDE.base_of(word)?;
+    allowed(Inst::MoveWide {
+        base,
+        rd,
+        imm16,
+        hw,
+    })
 }
 
 /// Bitfield.
@@ -124,28 +196,49 @@ fn bitfield(word: u32) -> Option<Inst>
 {
     let rd = RD.register(word);
     let rn = RN.register(word);
-    let imms = IMMS.of(word);
-    let immr = IMMR.of(word);
-    let base = BITFIELD.base_of(word)?;
-    allowed(Inst::Bitfield { base, rd, rn, imms, immr })
+    let imms = IMMS.number(word);
+    let immr = IMMR.number(word);
+    let base = rows::BITFIELD.base_of(word)?;
+    allowed(Inst::Bitfield {
+        base,
+        rd,
+        rn,
+        imms,
+        immr,
+    })
 }
 
-/// Branches.
+/// Branches: to an offset, on a condition, on a register, to a register.
 fn branches(word: u32) -> Option<Inst>
-    ensures { result ≡ by_rows (table.branch ∷ table.branch_conditional ∷ table.compare_and_branch ∷ table.branch_register ∷ []) word }
+    ensures { result ≡ by_rows (table.branch ∷ table.branch_conditional
+        ∷ table.compare_and_branch ∷ table.branch_register ∷ []) word }
 {
-    let imm19 = IMM19.of(word);
-    if let Some(base) = BRANCH.base_of(word) {
-        return Some(Inst::Branch { base, imm26: IMM26.of(word) });
+    let imm19 = IMM19.number(word);
+    if let Some(base) = rows::BRANCH.base_of(word) {
+        return Some(Inst::Branch {
+            base,
+            imm26: IMM26.number(word),
+        });
     }
-    if let Some(base) = BRANCH_CONDITIONAL.base_of(word) {
-        return Some(Inst::BranchConditional { base, cond: COND.of(word), imm19 });
+    if let Some(base) = rows::BRANCH_CONDITIONAL.base_of(word) {
+        return Some(Inst::BranchConditional {
+            base,
+            cond: COND.number(word),
+            imm19,
+        });
     }
-    if let Some(base) = COMPARE_AND_BRANCH.base_of(word) {
-        return Some(Inst::CompareAndBranch { base, rt: RT.register(word), imm19 });
+    if let Some(base) = rows::COMPARE_AND_BRANCH.base_of(word) {
+        return Some(Inst::CompareAndBranch {
+            base,
+            rt: RT.register(word),
+            imm19,
+        });
     }
-    let base = BRANCH_REGISTER.base_of(word)?;
-    Some(Inst::BranchRegister { base, rn: RN.register(word) })
+    let base = rows::BRANCH_REGISTER.base_of(word)?;
+    Some(Inst::BranchRegister {
+        base,
+        rn: RN.register(word),
+    })
 }
 
 /// Load and store (register offset).
@@ -154,36 +247,75 @@ fn register_offset(word: u32) -> Option<Inst>
 {
     let rt = RT.register(word);
     let rn = RN.register(word);
-    let s = S.of(word);
+    let s = S.number(word);
     let rm = RM.register(word);
-    if let Some(base) = STORE_REGISTER.base_of(word) {
-        return Some(Inst::StoreRegister { base, rt, rn, s, rm });
+    if let Some(base) = rows::STORE_REGISTER.base_of(word) {
+        return Some(Inst::StoreRegister {
+            base,
+            rt,
+            rn,
+            s,
+            rm,
+        });
     }
-    if let Some(base) = LOAD_REGISTER.base_of(word) {
-        return Some(Inst::LoadRegister { base, rt, rn, s, rm });
+    if let Some(base) = rows::LOAD_REGISTER.base_of(word) {
+        return Some(Inst::LoadRegister {
+            base,
+            rt,
+            rn,
+            s,
+            rm,
+        });
     }
-    let base = LOAD_SIGNED_REGISTER.base_of(word)?;
-    Some(Inst::LoadSignedRegister { base, rt, rn, s, rm })
+    let base = rows::LOAD_SIGNED_REGISTER.base_of(word)?;
+    Some(Inst::LoadSignedRegister {
+        base,
+        rt,
+        rn,
+        s,
+        rm,
+    })
 }
 
 /// Load and store (unsigned immediate).
 fn unsigned_offset(word: u32) -> Option<Inst>
-    ensures { result ≡ by_rows (table.store_immediate ∷ table.load_immediate ∷ table.load_signed_immediate_64 ∷ table.load_signed_immediate_32 ∷ []) word }
+    ensures { result ≡ by_rows (table.store_immediate ∷ table.load_immediate
+        ∷ table.load_signed_immediate_64 ∷ table.load_signed_immediate_32 ∷ []) word }
 {
     let rt = RT.register(word);
     let rn = RN.register(word);
-    let imm12 = IMM12.of(word);
-    if let Some(base) = STORE_IMMEDIATE.base_of(word) {
-        return Some(Inst::StoreImmediate { base, rt, rn, imm12 });
+    let imm12 = IMM12.number(word);
+    if let Some(base) = rows::STORE_IMMEDIATE.base_of(word) {
+        return Some(Inst::StoreImmediate {
+            base,
+            rt,
+            rn,
+            imm12,
+        });
     }
-    if let Some(base) = LOAD_IMMEDIATE.base_of(word) {
-        return Some(Inst::LoadImmediate { base, rt, rn, imm12 });
+    if let Some(base) = rows::LOAD_IMMEDIATE.base_of(word) {
+        return Some(Inst::LoadImmediate {
+            base,
+            rt,
+            rn,
+            imm12,
+        });
     }
-    if let Some(base) = LOAD_SIGNED_IMMEDIATE_64.base_of(word) {
-        return Some(Inst::LoadSignedImmediate64 { base, rt, rn, imm12 });
+    if let Some(base) = rows::LOAD_SIGNED_IMMEDIATE_64.base_of(word) {
+        return Some(Inst::LoadSignedImmediate64 {
+            base,
+            rt,
+            rn,
+            imm12,
+        });
     }
-    let base = LOAD_SIGNED_IMMEDIATE_32.base_of(word)?;
-    Some(Inst::LoadSignedImmediate32 { base, rt, rn, imm12 })
+    let base = rows::LOAD_SIGNED_IMMEDIATE_32.base_of(word)?;
+    Some(Inst::LoadSignedImmediate32 {
+        base,
+        rt,
+        rn,
+        imm12,
+    })
 }
 
 /// Data processing (2 source) and conditional select.
@@ -193,14 +325,20 @@ fn two_sources(word: u32) -> Option<Inst>
     let rd = RD.register(word);
     let rn = RN.register(word);
     let rm = RM.register(word);
-    if let Some(base) = DIVIDE.base_of(word) {
+    if let Some(base) = rows::DIVIDE.base_of(word) {
         return Some(Inst::Divide { base, rd, rn, rm });
     }
-    if let Some(base) = SHIFT_VARIABLE.base_of(word) {
+    if let Some(base) = rows::SHIFT_VARIABLE.base_of(word) {
         return Some(Inst::ShiftVariable { base, rd, rn, rm });
     }
-    let base = CONDITIONAL_SELECT.base_of(word)?;
-    Some(Inst::ConditionalSelect { base, rd, rn, cond: CONDITION.of(word), rm })
+    let base = rows::CONDITIONAL_SELECT.base_of(word)?;
+    Some(Inst::ConditionalSelect {
+        base,
+        rd,
+        rn,
+        cond: CONDITION.number(word),
+        rm,
+    })
 }
 
 /// Data processing (3 source).
@@ -210,12 +348,18 @@ fn three_sources(word: u32) -> Option<Inst>
     let rd = RD.register(word);
     let rn = RN.register(word);
     let rm = RM.register(word);
-    if let Some(base) = MULTIPLY_ADD.base_of(word) {
-        return Some(Inst::MultiplyAdd { base, rd, rn, ra: RA.register(word), rm });
+    if let Some(base) = rows::MULTIPLY_ADD.base_of(word) {
+        return Some(Inst::MultiplyAdd {
+            base,
+            rd,
+            rn,
+            ra: RA.register(word),
+            rm,
+        });
     }
-    if let Some(base) = MULTIPLY_LONG.base_of(word) {
+    if let Some(base) = rows::MULTIPLY_LONG.base_of(word) {
         return Some(Inst::MultiplyLong { base, rd, rn, rm });
     }
-    let base = MULTIPLY_HIGH.base_of(word)?;
+    let base = rows::MULTIPLY_HIGH.base_of(word)?;
     Some(Inst::MultiplyHigh { base, rd, rn, rm })
 }

@@ -15,8 +15,7 @@ pub fn words_read_back()
     // A word is outside exactly where it is that of no instruction.
     ensures outside { (word : ℕ) → word < 2 ^ 32
         → ((instruction word ≡ None) ↔ ((inst : Inst) → InRange inst → word_of inst ≢ word)) }
-{
-}
+{}
 
 /// The law of the rows: the bits that each fixes.
 pub fn rows_fix_bits()
@@ -30,5 +29,4 @@ pub fn rows_fix_bits()
     ensures small { (inst : Inst) → InRange inst → word_of inst < 2 ^ 32 }
     // A word is outside exactly where no row has it.
     ensures outside { (word : ℕ) → (instruction word ≡ None) ↔ All (HasNot word) table }
-{
-}
+{}

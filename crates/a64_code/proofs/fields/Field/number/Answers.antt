@@ -1,6 +1,6 @@
 use Rattle.std.proofs.Common.{◌-◌, ◌/◌, ◌^◌, ap, ◌∙◌, bit_and}
 use Rattle.std.proofs.lemmas.Nat.{and_mask, one_shl}
-use Rattle.a64_code.proofs.fields.Field.of.Goals as goal
+use Rattle.a64_code.proofs.fields.Field.number.Goals as goal
 
 pub returns : goal.returns
 returns c =
