@@ -1,9 +1,9 @@
 -- Numbers that share no bit, and what a mask keeps of their sum.
-use Rattle.std.proofs.Common.{◌≡◌, ◌<◌, ◌≤◌, ◌+◌, ◌-◌, ◌*◌, ◌/◌, ◌%◌, ◌^◌, ℕ, zero, min, max, refl, sym, ap, ap₂, ◌∙◌, subst, arith, bit_and, bit_or}
-use Rattle.std.specs.Int.Bits.{or_add_and, and_zero_l, and_zero_r}
+use Rattle.std.proofs.Common.{◌≡◌, ◌<◌, ◌+◌, ◌^◌, ℕ, min, max, sym, ap, ap₂, ◌∙◌, subst, arith, bit_and, bit_or}
+use Rattle.std.specs.Int.Bits.{and_zero_l, and_zero_r}
 use Rattle.std.specs.Int.{bit_at}
-use Rattle.std.proofs.lemmas.Nat.{and_comm, and_assoc, and_le_r, or_disjoint, or_lt}
-use Rattle.std.proofs.lemmas.Nat.Bits.{bit_at_and, bit_at_or, bit_at-zero, same_from_bits}
+use Rattle.std.proofs.lemmas.Nat.{and_comm, and_assoc, or_disjoint, or_lt}
+use Rattle.std.proofs.lemmas.Nat.Bits.{bit_at_and, bit_at_or, same_from_bits}
 
 -- a number of the bits of m shares none with what shares none with m
 pub apart_within : (x m n : ℕ) → bit_and x m ≡ x → bit_and m n ≡ 0 → bit_and x n ≡ 0

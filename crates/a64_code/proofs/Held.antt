@@ -1,13 +1,13 @@
 -- Fields that share no bit: what they hold is what was put there, and the fixed bits and they are all of a word.
-use Rattle.std.proofs.Common.{◌≡◌, ◌<◌, ◌≤◌, ◌+◌, ◌-◌, ◌*◌, ◌/◌, ◌%◌, ◌^◌, ◌==◌, ◌&&◌, ℕ, Bool, true, false, List, [], ◌∷◌, length, map, zero, suc, refl, sym, ap, ap₂, ◌∙◌, subst, arith, bit_and}
+use Rattle.std.proofs.Common.{◌≡◌, ◌<◌, ◌≤◌, ◌+◌, ◌-◌, ◌*◌, ◌/◌, ◌%◌, ◌^◌, ◌==◌, ◌&&◌, ℕ, Bool, true, false, List, [], ◌∷◌, refl, sym, ap, ap₂, ◌∙◌, subst, arith, bit_and}
 use Rattle.std.proofs.lemmas.Bool.{eqb-true}
 use Rattle.std.proofs.Math.Nat.{mod-eq_of_lt}
-use Rattle.std.specs.Int.Bits.{and_zero_l, and_zero_r}
-use Rattle.std.proofs.lemmas.Nat.{and_comm, and_assoc, and_le_l, and_le_r, pow_pos, and-not, shl-shr, mod_below}
+use Rattle.std.specs.Int.Bits.{and_zero_r}
+use Rattle.std.proofs.lemmas.Nat.{and_comm, and_le_r, pow_pos, and-not, shl-shr, mod_below}
 use Rattle.std.proofs.lemmas.Nat.Bits.{and_high}
 use Rattle.a64_code.proofs.Bits.{apart_within, masked_sum, sum_masked, sum_below}
 use Rattle.a64_code.specs.Table.{Field}
-use Rattle.a64_code.specs.Words.{bits, held, covered, mask, spread, Fit}
+use Rattle.a64_code.specs.Words.{held, covered, mask, spread, Fit}
 
 pub both : (a b : Bool) → (a && b) ≡ true → (a ≡ true) × (b ≡ true)
 both true b h = (refl, h)

@@ -1,17 +1,17 @@
 -- The word of an instruction and the instruction of a word are inverse over the table.
-use Rattle.std.proofs.Common.{◌≡◌, ◌<◌, ◌≤◌, ◌+◌, ◌-◌, ◌*◌, ◌/◌, ◌%◌, ◌^◌, ◌==◌, ◌&&◌, ℕ, Bool, true, false, not, cond, IsTrue, List, [], ◌∷◌, ◌++◌, length, map, take, drop, zero, suc, refl, sym, ap, ap₂, ◌∙◌, subst, arith, bit_and, slice_index, position, Option, Some, None, option_and_then}
-use Rattle.std.specs.List.{list_all, list_any}
+use Rattle.std.proofs.Common.{◌≡◌, ◌<◌, ◌+◌, ◌^◌, ◌==◌, ℕ, Bool, true, false, cond, IsTrue, List, [], ◌∷◌, ◌++◌, length, map, take, drop, refl, sym, ap, ◌∙◌, subst, bit_and, slice_index, position, Option, Some, None}
+use Rattle.std.specs.List.{list_all}
 use Rattle.std.specs.Option.{option_or}
-use Rattle.std.proofs.lemmas.Bool.{eqb-true, eq-eqb}
+use Rattle.std.proofs.lemmas.Bool.{eqb-true}
 use Rattle.std.proofs.lemmas.Option.{option_and_then_some}
 use Rattle.std.proofs.lemmas.List.Quantifiers.{position-Some}
-use Rattle.a64_code.proofs.Held.{both, held_fit, whole_word}
-use Rattle.a64_code.proofs.Written.{InOrder, is_in_order, in_order, written, written_fixed, written_below, written_held, read_back}
+use Rattle.a64_code.proofs.Held.{held_fit, whole_word}
+use Rattle.a64_code.proofs.Written.{InOrder, is_in_order, in_order, written, written_fixed, written_held, read_back}
 use Rattle.a64_code.proofs.Searched.{rows_apart, found}
 use Rattle.a64_code.specs.declared.inst.Inst.{Inst}
 use Rattle.a64_code.specs.declared.inst.Inst.TheVariants as insts
 use Rattle.a64_code.specs.Table.{Field, Row, Parts, parts, parts_of, table, add_immediate, sub_immediate, add_register, sub_register, logical_register, or_not_register, multiply_add, multiply_long, multiply_high, divide, shift_variable, bitfield, move_wide, store_immediate, load_immediate, load_signed_immediate_64, load_signed_immediate_32, store_register, load_register, load_signed_register, pair, pc_relative, branch, branch_conditional, compare_and_branch, branch_register, conditional_select}
-use Rattle.a64_code.specs.Words.{bits, held, covered, mask, spread, Fit, is_allowed, allowed, word_of, InRange, IsWord, by_row, by_rows, instruction}
+use Rattle.a64_code.specs.Words.{bits, held, mask, spread, Fit, is_allowed, allowed, word_of, InRange, IsWord, by_row, by_rows, instruction}
 
 -- ---- what is read by a row is written by it
 

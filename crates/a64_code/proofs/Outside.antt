@@ -1,16 +1,16 @@
 -- What a row fixes of its words, and the words outside the table.
-use Rattle.std.proofs.Common.{◌≡◌, ◌≢◌, ◌<◌, ◌≤◌, ◌+◌, ◌==◌, ◌^◌, ◌↔◌, ℕ, Bool, true, false, cond, IsTrue, List, [], ◌∷◌, length, refl, sym, ap, ◌∙◌, bit_and, slice_index, position, Option, Some, None, option_and_then}
+use Rattle.std.proofs.Common.{◌≡◌, ◌≢◌, ◌<◌, ◌==◌, ◌^◌, ◌↔◌, ℕ, Bool, true, false, cond, List, [], ◌∷◌, refl, sym, ap, ◌∙◌, bit_and, slice_index, position, Option, Some, None, option_and_then}
 use Rattle.std.specs.List.{All, AllByRecursion}
 use Rattle.std.proofs.lemmas.List.Elements.{All-from_recursion, recursion_from_All}
 use Rattle.std.specs.Option.{option_or}
 use Rattle.std.proofs.lemmas.Bool.{eqb-true}
 use Rattle.std.proofs.lemmas.List.Quantifiers.{position-Some}
-use Rattle.a64_code.proofs.Written.{InOrder, is_in_order, in_order, written_fixed, written_below, written_held, base_found}
+use Rattle.a64_code.proofs.Written.{is_in_order, in_order, written_fixed, written_below, written_held, base_found}
 use Rattle.a64_code.proofs.Inverse.{known, instruction_is_word, AllSound, table_sound}
 use Rattle.a64_code.specs.declared.inst.Inst.{Inst}
 use Rattle.a64_code.specs.declared.inst.Inst.TheVariants as insts
-use Rattle.a64_code.specs.Table.{Field, Row, Parts, parts_of, table}
-use Rattle.a64_code.specs.Words.{bits, held, covered, mask, is_allowed, allowed, word_of, InRange, IsWord, by_row, by_rows, instruction, HasNot}
+use Rattle.a64_code.specs.Table.{Row, parts_of, table}
+use Rattle.a64_code.specs.Words.{bits, held, mask, is_allowed, allowed, word_of, InRange, by_row, by_rows, instruction, HasNot}
 
 -- ---- what a row fixes
 

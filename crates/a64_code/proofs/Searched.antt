@@ -1,6 +1,6 @@
 -- A search over rows: rows that cannot have a word are passed over.
-use Rattle.std.proofs.Common.{◌≡◌, ◌≢◌, subst, ◌<◌, ◌≤◌, ◌+◌, ◌-◌, ◌*◌, ◌/◌, ◌%◌, ◌^◌, ◌==◌, ◌&&◌, ℕ, Bool, true, false, not, cond, List, [], ◌∷◌, ◌++◌, length, take, drop, filter, zero, suc, refl, sym, ap, ap₂, ◌∙◌, arith, bit_and, slice_index, position, Option, Some, None, option_and_then}
-use Rattle.std.specs.List.{list_all, list_any}
+use Rattle.std.proofs.Common.{◌≡◌, ◌≢◌, subst, ◌<◌, ◌≤◌, ◌+◌, ◌-◌, ◌*◌, ◌/◌, ◌%◌, ◌^◌, ◌==◌, ℕ, Bool, true, false, not, cond, List, [], ◌∷◌, ◌++◌, length, zero, suc, refl, sym, ap, ◌∙◌, arith, bit_and, slice_index, Some, None, option_and_then}
+use Rattle.std.specs.List.{list_all}
 use Rattle.std.specs.Option.{option_or}
 use Rattle.std.proofs.lemmas.Bool.{eqb-true, eq-eqb, not-true, false_from_ne_true}
 use Rattle.std.proofs.lemmas.Nat.{and_comm, and_assoc}
@@ -9,8 +9,8 @@ use Rattle.a64_code.proofs.Positions.{position_nowhere}
 use Rattle.a64_code.proofs.Held.{both}
 use Rattle.a64_code.proofs.Written.{all_at}
 use Rattle.a64_code.specs.declared.inst.Inst.{Inst}
-use Rattle.a64_code.specs.Table.{Field, Row}
-use Rattle.a64_code.specs.Words.{bits, covered, mask, allowed, by_row, by_rows}
+use Rattle.a64_code.specs.Table.{Row}
+use Rattle.a64_code.specs.Words.{bits, mask, allowed, by_row, by_rows}
 
 -- none of the bases of a row is what the word has in its fixed bits
 pub passed_over : (row : Row) (word : ℕ) → ((k : ℕ) → k < length row.bases → (slice_index row.bases k == bit_and word (mask row.fields)) ≡ false) → by_row row word ≡ None

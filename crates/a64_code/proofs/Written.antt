@@ -1,16 +1,11 @@
 -- A row that is in order: what is written by it is read by it, and nothing else.
-use Rattle.std.proofs.Common.{◌≡◌, ◌≢◌, ◌<◌, ◌≤◌, ◌+◌, ◌-◌, ◌*◌, ◌/◌, ◌%◌, ◌^◌, ◌==◌, ◌&&◌, ◌⊎◌, inl, inr, ℕ, Bool, true, false, not, cond, nat_lt, IsTrue, List, [], ◌∷◌, ◌++◌, length, map, take, drop, zero, suc, refl, sym, ap, ap₂, ◌∙◌, subst, arith, bit_and, slice_index, slice_index_or, position, Option, Some, None, option_and_then}
-use Rattle.std.specs.List.{list_all, list_any}
-use Rattle.std.specs.Option.{option_or}
+use Rattle.std.proofs.Common.{◌≡◌, ◌<◌, ◌+◌, ◌^◌, ◌==◌, ◌&&◌, ℕ, Bool, true, false, not, nat_lt, List, [], ◌∷◌, length, zero, suc, refl, sym, ap, ◌∙◌, arith, bit_and, slice_index, position, Some, option_and_then}
+use Rattle.std.specs.List.{list_all}
 use Rattle.std.proofs.lemmas.Bool.{eqb-true, eq-eqb, ltb-true}
-use Rattle.std.proofs.lemmas.List.Quantifiers.{position-Some}
-use Rattle.std.proofs.lemmas.Nat.{and_comm, and_assoc}
-use Rattle.std.proofs.lemmas.Nat.Bits.{and_high}
-use Rattle.a64_code.proofs.Positions.{position_here, position_nowhere}
-use Rattle.a64_code.proofs.Held.{Apart, both, are_apart, held_fit, held_back, whole_word, fixed_bits, word_below}
-use Rattle.a64_code.specs.declared.inst.Inst.{Inst}
-use Rattle.a64_code.specs.Table.{Field, Row, Parts, parts, parts_of}
-use Rattle.a64_code.specs.Words.{bits, held, covered, mask, spread, Fit, is_allowed, allowed, word_of, InRange, by_row, by_rows}
+use Rattle.a64_code.proofs.Positions.{position_here}
+use Rattle.a64_code.proofs.Held.{Apart, both, are_apart, held_back, fixed_bits, word_below}
+use Rattle.a64_code.specs.Table.{Row}
+use Rattle.a64_code.specs.Words.{bits, held, covered, mask, spread, Fit, allowed, by_row}
 
 -- the fields share no bit, and the bases are words that share none with them
 abbrev pub is_base : ℕ → ℕ → Bool

@@ -1,9 +1,9 @@
 -- The word of an instruction, and the instruction of a word, over the table of rows.
-use Rattle.std.specs.Prelude.{◌≡◌, ◌≢◌, ◌<◌, ◌+◌, ◌-◌, ◌*◌, ◌/◌, ◌%◌, ◌^◌, ◌==◌, ◌&&◌, ◌||◌, ℕ, Bool, true, false, not, cond, nat_lt, IsTrue, List, [], ◌∷◌, length, map, position, slice_index, bit_and, Option, Some, None, option_and_then}
+use Rattle.std.specs.Prelude.{◌≡◌, ◌<◌, ◌+◌, ◌-◌, ◌*◌, ◌/◌, ◌%◌, ◌^◌, ◌==◌, ◌&&◌, ◌||◌, ℕ, Bool, true, false, not, cond, nat_lt, IsTrue, List, [], ◌∷◌, length, map, position, slice_index, bit_and, Option, Some, None, option_and_then}
 use Rattle.std.specs.Option.{option_or}
 use Rattle.a64_code.specs.declared.inst.Inst.{Inst}
 use Rattle.a64_code.specs.declared.inst.Inst.TheVariants as insts
-use Rattle.a64_code.specs.Table.{Field, Row, Parts, parts_of, table}
+use Rattle.a64_code.specs.Table.{Field, Row, parts_of, table}
 
 -- ---- fields
 
@@ -41,9 +41,13 @@ Fit fields values = ⊥
 abbrev pub width : ℕ → ℕ
 width base = cond (base % 2 == 0) 32 64
 
--- The amount of a shift, and both numbers of a bit field, are below the width. ADD and SUB have no ROR. The place of a
--- moved 16-bit number is in the register. A pair with writeback does not use its base as a register of data, and LDP
--- loads two registers.
+-- A pair with writeback does not use its base, if that is a register and not the stack pointer, for data, and LDP (its
+-- row's base 1) loads two registers.
+abbrev pub pair_allowed : ℕ → ℕ → ℕ → ℕ → Bool
+pair_allowed base rt rn rt2 = (rn == 31 || not (rn == rt || rn == rt2)) && not (base == 1 && rt == rt2)
+
+-- The amount of a shift and both numbers of a bit field are below the width, ADD and SUB have no ROR, and the place of a
+-- moved 16-bit number is in the register.
 abbrev pub is_allowed : Inst → Bool
 is_allowed (insts.AddRegister base rd rn imm6 rm shift) = nat_lt shift 3 && nat_lt imm6 (width base)
 is_allowed (insts.SubRegister base rd rn imm6 rm shift) = nat_lt shift 3 && nat_lt imm6 (width base)
@@ -51,8 +55,7 @@ is_allowed (insts.LogicalRegister base rd rn imm6 rm shift) = nat_lt imm6 (width
 is_allowed (insts.OrNotRegister base rd rn imm6 rm shift) = nat_lt imm6 (width base)
 is_allowed (insts.Bitfield base rd rn imms immr) = nat_lt imms (width base) && nat_lt immr (width base)
 is_allowed (insts.MoveWide base rd imm16 hw) = nat_lt hw (width base / 16)
-is_allowed (insts.Pair base rt rn rt2 imm7) =
-    (rn == 31 || not (rn == rt || rn == rt2)) && not (base == 1 && rt == rt2)
+is_allowed (insts.Pair base rt rn rt2 imm7) = pair_allowed base rt rn rt2
 is_allowed inst = true
 
 -- ---- the two directions
@@ -68,12 +71,7 @@ pub record InRange (inst : Inst) : Type 0 where
   pub fields : Fit (parts_of inst).row.fields (parts_of inst).values
   pub allowed : IsTrue (is_allowed inst)
 
--- the word is that of the instruction
-pub record IsWord (inst : Inst) (word : ℕ) : Type 0 where
-  pub range : InRange inst
-  pub spelled : word_of inst ≡ word
-
--- the same as tests
+-- the first two parts as tests
 abbrev pub fit : List Field → List ℕ → Bool
 fit [] [] = true
 fit (field ∷ fields) (value ∷ values) = nat_lt value (2 ^ field.width) && fit fields values
@@ -83,6 +81,12 @@ abbrev pub parts_fit : Inst → Bool
 parts_fit inst =
     nat_lt (parts_of inst).base (length (parts_of inst).row.bases) && fit (parts_of inst).row.fields (parts_of inst).values
 
+-- the word is that of the instruction
+pub record IsWord (inst : Inst) (word : ℕ) : Type 0 where
+  pub range : InRange inst
+  pub spelled : word_of inst ≡ word
+
+-- the instruction, if its row's own condition allows it
 abbrev pub allowed : Inst → Option Inst
 allowed inst = cond (is_allowed inst) (Some inst) None
 

@@ -1,7 +1,7 @@
 //! The instructions, one variant for each row of the table.
 
 ghost use Rattle.std.specs.Prelude.{◌≡◌};
-ghost use Rattle.a64_code.specs.Words.{is_allowed, width as width_of};
+ghost use Rattle.a64_code.specs.Words.{is_allowed, pair_allowed, width as width_of};
 
 /// An instruction. `base` is the place, from 0, of its base among those of its row, in the order in which each variant
 /// lists them; `w` is an operation of 32 bits and `x` one of 64. The other fields have the names of the Arm Architecture
@@ -212,8 +212,7 @@ pub enum Inst {
 
 impl Inst {
     /// Whether the row's own condition holds: the amount of a shift and the numbers of a bit field are below the width,
-    /// ADD and SUB have no ROR, the place of a 16-bit number is in the register, a pair with writeback does not use its
-    /// base as a register of data, and LDP loads two registers.
+    /// ADD and SUB have no ROR, the place of a 16-bit number is in the register, and the registers of a pair differ.
     pub(crate) fn is_allowed(self) -> bool
         ensures { result ≡ is_allowed self }
     {
@@ -246,18 +245,28 @@ impl Inst {
                 rn,
                 rt2,
                 ..
-            } => { (rn == 31 || rn != rt && rn != rt2) && (base != LDP || rt != rt2) }
+            } => pair_is_allowed(base, rt, rn, rt2),
             _ => true,
         }
     }
 }
-
-/// The base of LDP among those of its row.
-const LDP: u8 = 1;
 
 /// How many bits an operation has, in rows whose bases are by turns of 32 and of 64.
 fn width(base: u8) -> u32
     ensures { result ≡ width_of base }
 {
     if base % 2 == 0 { 32 } else { 64 }
+}
+
+/// The stack pointer, as the base of an address.
+const SP: u8 = 31;
+
+/// The base of LDP among those of its row.
+const LDP: u8 = 1;
+
+/// Whether a pair with writeback does not use its base as a register of data, and LDP loads two registers.
+fn pair_is_allowed(base: u8, rt: u8, rn: u8, rt2: u8) -> bool
+    ensures { result ≡ pair_allowed base rt rn rt2 }
+{
+    (rn == SP || rn != rt && rn != rt2) && (base != LDP || rt != rt2)
 }

@@ -1,4 +1,7 @@
-//! The words of A64, both ways.
+//! The words of A64 that are compiled and run, both ways.
+//!
+//! An [`Inst`] is an instruction as its row in a table and the fields of its word. [`decode`] gives the instruction of a
+//! word, and [`encode`] the word of an instruction.
 #![tactic(auto)]
 
 mod decoding;
@@ -13,3 +16,6 @@ pub use decoding::decode;
 pub use encoding::encode;
 pub use inst::Inst;
 pub use laws::{rows_fix_bits, words_read_back};
+
+#[cfg(test)]
+mod tests;

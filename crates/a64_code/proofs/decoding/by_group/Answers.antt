@@ -1,5 +1,5 @@
 -- In each group the rows that are tried are those of the table that a word of the group can have.
-use Rattle.std.proofs.Common.{List, [], ◌∷◌, refl, sym, ◌∙◌, arith}
+use Rattle.std.proofs.Common.{[], ◌∷◌, refl, sym, ◌∙◌, arith}
 use Rattle.a64_code.proofs.Searched.{group_answers, groups_answer}
 use Rattle.a64_code.specs.Table.{table, add_immediate, add_register, bitfield, branch, branch_conditional, branch_register, compare_and_branch, conditional_select, divide, load_immediate, load_register, load_signed_immediate_32, load_signed_immediate_64, load_signed_register, logical_register, move_wide, multiply_add, multiply_high, multiply_long, or_not_register, pair, pc_relative, shift_variable, store_immediate, store_register, sub_immediate, sub_register}
 use Rattle.a64_code.specs.Words.{instruction}

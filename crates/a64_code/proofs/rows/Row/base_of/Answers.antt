@@ -1,4 +1,4 @@
-use Rattle.std.proofs.Common.{◌==◌, ◌<◌, length, slice_index, sym, arith, eq-eqb, bit_and}
+use Rattle.std.proofs.Common.{◌==◌, sym, arith, eq-eqb, bit_and}
 use Rattle.a64_code.proofs.Positions.{position_here, position_nowhere}
 use Rattle.a64_code.proofs.rows.Row.base_of.Goals as goal
 
