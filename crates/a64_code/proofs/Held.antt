@@ -106,7 +106,7 @@ spread_injective [] [] (value ∷ values) h fit other e = absurd other
 spread_injective (field ∷ fields) [] others h fit other e = absurd fit
 spread_injective (field ∷ fields) (value ∷ values) [] h fit other e = absurd other
 
--- behind a number that shares no bit with the fields, they hold what was put there
+-- added to a number that shares no bit with the fields, values are what the fields hold
 pub held_back : (fixed : ℕ) (fields : List Field) (values : List ℕ) → are_apart fields ≡ true → Fit fields values → Apart fixed (covered fields) → held (fixed + spread fields values) fields ≡ values
 held_back fixed fields values h fit apart =
     let word = fixed + spread fields values in

@@ -5,3 +5,4 @@ pub mod Written
 pub mod Searched
 pub mod Inverse
 pub mod Outside
+pub mod Examples

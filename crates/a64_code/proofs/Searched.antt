@@ -31,7 +31,7 @@ either_order word m n = and_assoc n word m ∙ ap (bit_and word) (and_comm m n) 
 
 -- ---- rows of which no word has both
 
--- the fixed bits that two rows share tell a base of one from all bases of the other
+-- in the fixed bits that two rows share, a base of one differs from all bases of the other
 abbrev pub base_apart : Row → Row → ℕ → ℕ → Bool
 base_apart row other base theirs = not (bit_and theirs (mask row.fields) == bit_and base (mask other.fields))
 
@@ -40,9 +40,13 @@ rows_apart row other = list_all (λ base. list_all (base_apart row other base) o
 
 pub apart_passed : (row other : Row) (word base : ℕ) → rows_apart row other ≡ true → base < length row.bases → bit_and word (mask row.fields) ≡ slice_index row.bases base → by_row other word ≡ None
 apart_passed row other word base h within e =
-    passed_over other word (λ k below. refuted (slice_index other.bases k) (bit_and word (mask other.fields)) _ _ (all_at (base_apart row other (slice_index row.bases base)) other.bases k (all_at (λ b. list_all (base_apart row other b) other.bases) row.bases base h within) below) (λ (d : slice_index other.bases k ≡ bit_and word (mask other.fields)). ap (λ n. bit_and n (mask row.fields)) d ∙ either_order word (mask other.fields) (mask row.fields) ∙ ap (λ n. bit_and n (mask other.fields)) e))
+    let mine = slice_index row.bases base in
+    let all : list_all (base_apart row other mine) other.bases ≡ true =
+    all_at (λ b. list_all (base_apart row other b) other.bases) row.bases base h within in
+    let shared = λ (theirs : ℕ) (d : theirs ≡ bit_and word (mask other.fields)). ap (λ n. bit_and n (mask row.fields)) d ∙ either_order word (mask other.fields) (mask row.fields) ∙ ap (λ n. bit_and n (mask other.fields)) e in
+    passed_over other word (λ k below. refuted (slice_index other.bases k) (bit_and word (mask other.fields)) _ _ (all_at (base_apart row other mine) other.bases k all below) (shared (slice_index other.bases k)))
 
--- the row that a word has is found behind rows apart from it
+-- the row that a word has is found after rows apart from it
 pub found : (before rest : List Row) (row : Row) (word base : ℕ) (inst : Inst) → list_all (rows_apart row) before ≡ true → base < length row.bases → bit_and word (mask row.fields) ≡ slice_index row.bases base → by_row row word ≡ Some inst → by_rows (before ++ row ∷ rest) word ≡ Some inst
 found [] rest row word base inst h within e here = ap (λ o. option_or o (by_rows rest word)) here
 found (other ∷ before) rest row word base inst h within e here =
@@ -69,7 +73,9 @@ in_group group (row ∷ rows) = cond (outside_group group row) (in_group group r
 
 group_passed : (row : Row) (word group : ℕ) → word / 2 ^ 24 % 32 ≡ group → outside_group group row ≡ true → by_row row word ≡ None
 group_passed row word group g h =
-    passed_over row word (λ k below. refuted (slice_index row.bases k) (bit_and word (mask row.fields)) _ _ (all_at (base_outside group (mask row.fields)) row.bases k h below) (λ (d : slice_index row.bases k ≡ bit_and word (mask row.fields)). ap (λ n. bit_and n group_bits) d ∙ either_order word (mask row.fields) group_bits ∙ ap (λ n. bit_and n (mask row.fields)) (and_high word 5 24 ∙ ap (λ n. n * 2 ^ 24) g)))
+    let fixed = mask row.fields in
+    let shared = λ (base : ℕ) (d : base ≡ bit_and word fixed). ap (λ n. bit_and n group_bits) d ∙ either_order word fixed group_bits ∙ ap (λ n. bit_and n fixed) (and_high word 5 24 ∙ ap (λ n. n * 2 ^ 24) g) in
+    passed_over row word (λ k below. refuted (slice_index row.bases k) (bit_and word fixed) _ _ (all_at (base_outside group fixed) row.bases k h below) (shared (slice_index row.bases k)))
 
 -- the rows of a word's group are all that it can have
 pub group_alone : (rows : List Row) (word group : ℕ) → word / 2 ^ 24 % 32 ≡ group → by_rows rows word ≡ by_rows (in_group group rows) word

@@ -37,7 +37,7 @@ Fit fields values = ⊥
 
 -- ---- rows with a condition of their own
 
--- how many bits an operation has: the bases of these rows are by turns of 32 and of 64
+-- how many bits an operation has: the bases of these rows alternate, 32 first
 abbrev pub width : ℕ → ℕ
 width base = cond (base % 2 == 0) 32 64
 

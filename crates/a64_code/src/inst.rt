@@ -251,7 +251,7 @@ impl Inst {
     }
 }
 
-/// How many bits an operation has, in rows whose bases are by turns of 32 and of 64.
+/// How many bits an operation has, in rows whose bases alternate, 32 first.
 fn width(base: u8) -> u32
     ensures { result ≡ width_of base }
 {
