@@ -84,14 +84,14 @@ immlo = field 29 2
 abbrev pub imm26 : Field
 imm26 = field 0 26
 
-abbrev pub cond : Field
-cond = field 0 4
+abbrev pub branch_cond : Field
+branch_cond = field 0 4
 
 abbrev pub imm19 : Field
 imm19 = field 5 19
 
-abbrev pub condition : Field
-condition = field 12 4
+abbrev pub select_cond : Field
+select_cond = field 12 4
 
 -- ---- rows
 
@@ -213,7 +213,7 @@ branch =
 -- B.cond
 abbrev pub branch_conditional : Row
 branch_conditional =
-    row (0x54000000 ∷ []) (cond ∷ imm19 ∷ []) (λ base at. insts.BranchConditional base (at cond) (at imm19))
+    row (0x54000000 ∷ []) (branch_cond ∷ imm19 ∷ []) (λ base at. insts.BranchConditional base (at branch_cond) (at imm19))
 
 -- CBZ w, CBZ x, CBNZ w, CBNZ x
 abbrev pub compare_and_branch : Row
@@ -228,7 +228,7 @@ branch_register =
 -- CSEL w, CSEL x, CSINC w, CSINC x
 abbrev pub conditional_select : Row
 conditional_select =
-    row (0x1A800000 ∷ 0x9A800000 ∷ 0x1A800400 ∷ 0x9A800400 ∷ []) (rd ∷ rn ∷ condition ∷ rm ∷ []) (λ base at. insts.ConditionalSelect base (at rd) (at rn) (at condition) (at rm))
+    row (0x1A800000 ∷ 0x9A800000 ∷ 0x1A800400 ∷ 0x9A800400 ∷ []) (rd ∷ rn ∷ select_cond ∷ rm ∷ []) (λ base at. insts.ConditionalSelect base (at rd) (at rn) (at select_cond) (at rm))
 
 abbrev pub table : List Row
 table =

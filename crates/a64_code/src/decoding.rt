@@ -6,8 +6,8 @@ ghost use Rattle.a64_code.specs.Words.{InRange, IsWord, allowed as allowed_of, b
 ghost use Rattle.a64_code.specs.declared.inst.Inst.{Inst};
 
 use crate::fields::{
-    COND, CONDITION, GROUP, HW, IMM6, IMM7, IMM12, IMM16, IMM19, IMM26, IMMHI, IMMLO, IMMR, IMMS,
-    RA, RD, RM, RN, RT, RT2, S, SH, SHIFT,
+    BRANCH_COND, GROUP, HW, IMM6, IMM7, IMM12, IMM16, IMM19, IMM26, IMMHI, IMMLO, IMMR, IMMS, RA,
+    RD, RM, RN, RT, RT2, S, SELECT_COND, SH, SHIFT,
 };
 use crate::inst::Inst;
 use crate::laws::words_read_back;
@@ -223,7 +223,7 @@ fn branches(word: u32) -> Option<Inst>
     if let Some(base) = rows::BRANCH_CONDITIONAL.base_of(word) {
         return Some(Inst::BranchConditional {
             base,
-            cond: COND.number(word),
+            cond: BRANCH_COND.number(word),
             imm19,
         });
     }
@@ -336,7 +336,7 @@ fn two_sources(word: u32) -> Option<Inst>
         base,
         rd,
         rn,
-        cond: CONDITION.number(word),
+        cond: SELECT_COND.number(word),
         rm,
     })
 }

@@ -5,8 +5,8 @@ ghost use Rattle.a64_code.specs.Table as table;
 ghost use Rattle.a64_code.specs.Words.{Fit, InRange, instruction, spread, word_of};
 
 use crate::fields::{
-    COND, CONDITION, HW, IMM6, IMM7, IMM12, IMM16, IMM19, IMM26, IMMHI, IMMLO, IMMR, IMMS, RA, RD,
-    RM, RN, RT, RT2, S, SH, SHIFT,
+    BRANCH_COND, HW, IMM6, IMM7, IMM12, IMM16, IMM19, IMM26, IMMHI, IMMLO, IMMR, IMMS, RA, RD, RM,
+    RN, RT, RT2, S, SELECT_COND, SH, SHIFT,
 };
 use crate::inst::Inst;
 use crate::laws::words_read_back;
@@ -261,7 +261,7 @@ fn conditional_branch(cond: u32, imm19: u32) -> u32
     requires { Fit table.branch_conditional.fields (cond ∷ imm19 ∷ []) }
     ensures { result ≡ spread table.branch_conditional.fields (cond ∷ imm19 ∷ []) }
 {
-    COND.put(cond) + IMM19.put(imm19)
+    BRANCH_COND.put(cond) + IMM19.put(imm19)
 }
 
 /// Branches on a register.
@@ -277,5 +277,5 @@ fn conditional_select(rd: u8, rn: u8, cond: u32, rm: u8) -> u32
     requires { Fit table.conditional_select.fields (rd ∷ rn ∷ cond ∷ rm ∷ []) }
     ensures { result ≡ spread table.conditional_select.fields (rd ∷ rn ∷ cond ∷ rm ∷ []) }
 {
-    RD.put(rd as u32) + RN.put(rn as u32) + CONDITION.put(cond) + RM.put(rm as u32)
+    RD.put(rd as u32) + RN.put(rn as u32) + SELECT_COND.put(cond) + RM.put(rm as u32)
 }

@@ -156,7 +156,7 @@ pub const IMM26: Field = Field {
 };
 
 /// The condition of a branch.
-pub const COND: Field = Field { place: 0, width: 4 };
+pub const BRANCH_COND: Field = Field { place: 0, width: 4 };
 
 /// The signed offset of a conditional branch, in words.
 pub const IMM19: Field = Field {
@@ -165,7 +165,7 @@ pub const IMM19: Field = Field {
 };
 
 /// The condition of a select.
-pub const CONDITION: Field = Field {
+pub const SELECT_COND: Field = Field {
     place: 12,
     width: 4,
 };

@@ -5,8 +5,8 @@ ghost use Rattle.a64_code.specs.Table as table;
 ghost use Rattle.a64_code.specs.Words.{InRange, fit, parts_fit};
 
 use crate::fields::{
-    COND, CONDITION, HW, IMM6, IMM7, IMM12, IMM16, IMM19, IMM26, IMMHI, IMMLO, IMMR, IMMS, RA, RD,
-    RM, RN, RT, RT2, S, SH, SHIFT,
+    BRANCH_COND, HW, IMM6, IMM7, IMM12, IMM16, IMM19, IMM26, IMMHI, IMMLO, IMMR, IMMS, RA, RD, RM,
+    RN, RT, RT2, S, SELECT_COND, SH, SHIFT,
 };
 use crate::inst::Inst;
 use crate::rows;
@@ -253,7 +253,7 @@ fn pc_relative(rd: u8, immhi: u32, immlo: u32) -> bool
 fn conditional_branch(cond: u32, imm19: u32) -> bool
     ensures { result ≡ fit table.branch_conditional.fields (cond ∷ imm19 ∷ []) }
 {
-    COND.fits(cond) && IMM19.fits(imm19)
+    BRANCH_COND.fits(cond) && IMM19.fits(imm19)
 }
 
 /// Branches on a register.
@@ -267,5 +267,5 @@ fn compare_and_branch(rt: u8, imm19: u32) -> bool
 fn conditional_select(rd: u8, rn: u8, cond: u32, rm: u8) -> bool
     ensures { result ≡ fit table.conditional_select.fields (rd ∷ rn ∷ cond ∷ rm ∷ []) }
 {
-    RD.fits(rd as u32) && RN.fits(rn as u32) && CONDITION.fits(cond) && RM.fits(rm as u32)
+    RD.fits(rd as u32) && RN.fits(rn as u32) && SELECT_COND.fits(cond) && RM.fits(rm as u32)
 }

@@ -81,9 +81,29 @@ fn words(rt: HostRuntime) -> Result<(), Fail> {
             Some(inst) => {
                 assert_eq!(rt; format!(in rt.alloc(); "{inst:?}")?.as_str(), text);
                 assert_eq!(rt; encode(inst), word);
+                assert!(rt; inst.is_in_range());
             }
             None => assert_eq!(rt; "outside", text),
         }
     }
     Ok(())
+}
+
+#[test]
+fn out_of_range(rt: HostRuntime) {
+    let no_base = Inst::BranchRegister { base: 3, rn: 30 };
+    assert!(rt; !no_base.is_in_range());
+    let wide = Inst::Branch {
+        base: 0,
+        imm26: 0x400_0000,
+    };
+    assert!(rt; !wide.is_in_range());
+    let same = Inst::Pair {
+        base: 1,
+        rt: 9,
+        rn: 31,
+        rt2: 9,
+        imm7: 0,
+    };
+    assert!(rt; !same.is_in_range());
 }
