@@ -41,20 +41,24 @@ chosen true o p r e here there = here refl e
 chosen false o p r e here there = there refl e
 
 -- what was made of a value that was found
-made_of : {X Y P : Type 0} (f : X → Y) (o : Found X) (y : Y) (rest : List ℕ) → ◌≡◌ {A = Found Y} (made f o) (Some (y, rest)) → ((x : X) → ◌≡◌ {A = Found X} o (Some (x, rest)) → f x ≡ y → P) → P
+made_of : {X Y P : Type 0} (f : X → Y) (o : Found X) (y : Y) (rest : List ℕ) → ◌≡◌ {A = Found Y} (made f o) (Some (y, rest))
+    → ((x : X) → ◌≡◌ {A = Found X} o (Some (x, rest)) → f x ≡ y → P) → P
 made_of f None y rest e go = none_some y rest e
 made_of {X = X} {Y = Y} f (Some (x, more)) y rest e go =
     let (same, end) = same_found (f x) y more rest e in
     go x (let g : List ℕ → Found X = λ t. Some (x, t) in ap g end) same
 
-then_of : {X Y P : Type 0} (o : Found X) (next : X → List ℕ → Found Y) (y : Y) (rest : List ℕ) → ◌≡◌ {A = Found Y} (then_in o next) (Some (y, rest)) → ((x : X) (more : List ℕ) → ◌≡◌ {A = Found X} o (Some (x, more)) → ◌≡◌ {A = Found Y} (next x more) (Some (y, rest)) → P) → P
+then_of : {X Y P : Type 0} (o : Found X) (next : X → List ℕ → Found Y) (y : Y) (rest : List ℕ)
+    → ◌≡◌ {A = Found Y} (then_in o next) (Some (y, rest))
+    → ((x : X) (more : List ℕ) → ◌≡◌ {A = Found X} o (Some (x, more)) → ◌≡◌ {A = Found Y} (next x more) (Some (y, rest)) → P) → P
 then_of None next y rest e go = none_some y rest e
 then_of (Some (x, more)) next y rest e go = go x more refl e
 
 eqb-eq : (a b : ℕ) → (a == b) ≡ true → a ≡ b
 eqb-eq a b t = grind (arith, nat_tests)
 
-two_sound : (high : ℕ) (bytes : List ℕ) (n : ℕ) (rest : List ℕ) → ◌≡◌ {A = Found ℕ} (two_in high bytes) (Some (n, rest)) → (b : ℕ) × (bytes ≡ b ∷ rest) × (b < 256) × (n ≡ high * 256 + b)
+two_sound : (high : ℕ) (bytes : List ℕ) (n : ℕ) (rest : List ℕ) → ◌≡◌ {A = Found ℕ} (two_in high bytes) (Some (n, rest))
+    → (b : ℕ) × (bytes ≡ b ∷ rest) × (b < 256) × (n ≡ high * 256 + b)
 two_sound high [] n rest e = none_some n rest e
 two_sound high (b ∷ more) n rest e =
     chosen (nat_lt b 256) (Some (high * 256 + b, more)) None (Some (n, rest)) e
@@ -120,15 +124,18 @@ element_whole s e rest (is, element) =
     rw (ap (λ (x : List ℕ). x ++ rest) is, of_element e element) refl
 
 -- one byte, and nothing behind it
-one_byte : {X : Type 0} (Spells : List ℕ → X → Type 0) (a k : ℕ) (x y : X) (more rest : List ℕ) → a ≡ k → ◌≡◌ {A = Found X} (Some (x, more)) (Some (y, rest)) → Spells (k ∷ []) x → Begins Spells (a ∷ more) y rest
+one_byte : {X : Type 0} (Spells : List ℕ → X → Type 0) (a k : ℕ) (x y : X) (more rest : List ℕ) → a ≡ k
+    → ◌≡◌ {A = Found X} (Some (x, more)) (Some (y, rest)) → Spells (k ∷ []) x → Begins Spells (a ∷ more) y rest
 one_byte {X = X} Spells a k x y more rest is e h =
     let (same, end) = same_found x y more rest e in
     let P : X → Type 0 = λ z. Spells (k ∷ []) z in
     (k ∷ [], ap (λ b. b ∷ more) is ∙ ap (λ r. k ∷ r) end, subst P same h)
 
 -- a byte, and behind it what a reader finds
-behind_sound : {X Y : Type 0} (Spells : List ℕ → X → Type 0) (Made : List ℕ → Y → Type 0) (read : List ℕ → Found X) (f : X → Y) (k a : ℕ) (more : List ℕ) (y : Y) (rest : List ℕ) → IsSound Spells read
-    → ((s : List ℕ) (x : X) → Spells s x → Made (k ∷ s) (f x)) → (a == k) ≡ true → ◌≡◌ {A = Found Y} (made f (read more)) (Some (y, rest)) → Begins Made (a ∷ more) y rest
+behind_sound : {X Y : Type 0} (Spells : List ℕ → X → Type 0) (Made : List ℕ → Y → Type 0) (read : List ℕ → Found X) (f : X → Y) (k a : ℕ) (more : List ℕ) (y : Y) (rest : List ℕ)
+    → IsSound Spells read
+    → ((s : List ℕ) (x : X) → Spells s x → Made (k ∷ s) (f x)) → (a == k) ≡ true → ◌≡◌ {A = Found Y} (made f (read more)) (Some (y, rest))
+    → Begins Made (a ∷ more) y rest
 behind_sound {Y = Y} Spells Made read f k a more y rest sound spelled test e =
     made_of f (read more) y rest e (λ x found is.
     let (s, parts, h) = sound more x rest found in
@@ -181,11 +188,13 @@ array_whole s e rest (is, element) =
     rw (ap (λ (x : List ℕ). x ++ rest) is, element_whole (e ∷ []) e rest (refl, element)) refl
 
 -- two, one behind the other
-pair_sound : {X Y : Type 0} (SpellsX : List ℕ → X → Type 0) (SpellsY : List ℕ → Y → Type 0) (bytes more rest : List ℕ) (x : X) (y : Y) → Begins SpellsX bytes x more → Begins SpellsY more y rest → Begins (IsPair SpellsX SpellsY) bytes (x, y) rest
+pair_sound : {X Y : Type 0} (SpellsX : List ℕ → X → Type 0) (SpellsY : List ℕ → Y → Type 0) (bytes more rest : List ℕ) (x : X) (y : Y)
+    → Begins SpellsX bytes x more → Begins SpellsY more y rest → Begins (IsPair SpellsX SpellsY) bytes (x, y) rest
 pair_sound SpellsX SpellsY bytes more rest x y (s, first, h) (t, second, k) =
     (s ++ t, first ∙ ap (λ r. s ++ r) second ∙ sym (append_assoc s t rest), (s, t, refl, h, k))
 
-row_sound : (flags : ℕ) (bytes more rest : List ℕ) (field : FieldToken) → Begins IsCompressed bytes flags more → ◌≡◌ {A = Found FieldToken} (row_in flags more) (Some (field, rest)) → Begins IsFieldToken bytes field rest
+row_sound : (flags : ℕ) (bytes more rest : List ℕ) (field : FieldToken) → Begins IsCompressed bytes flags more
+    → ◌≡◌ {A = Found FieldToken} (row_in flags more) (Some (field, rest)) → Begins IsFieldToken bytes field rest
 row_sound flags bytes more rest field first e =
     chosen (flags == 0x00) (made (token false) (compressed_in more)) _ (Some (field, rest)) e
     (λ t s. flagged false (eqb-eq flags 0x00 t) s)
@@ -204,7 +213,8 @@ unfolding field_in
 field_sound bytes field rest e =
     then_of (compressed_in bytes) row_in field rest e (λ flags more found told. row_sound flags bytes more rest field (number_sound bytes flags more found) told)
 
-row_whole : (b : Bool) (row : ℕ) (more rest : List ℕ) → ◌≡◌ {A = Found ℕ} (compressed_in more) (Some (row, rest)) → ◌≡◌ {A = Found FieldToken} (row_in (flags_of b) more) (Some (token b row, rest))
+row_whole : (b : Bool) (row : ℕ) (more rest : List ℕ) → ◌≡◌ {A = Found ℕ} (compressed_in more) (Some (row, rest))
+    → ◌≡◌ {A = Found FieldToken} (row_in (flags_of b) more) (Some (token b row, rest))
 row_whole false row more rest e = rw e refl
 row_whole true row more rest e = rw e refl
 
@@ -215,7 +225,9 @@ field_whole s field rest (front, back, is, first, second) =
 
 -- ---- fixups
 
-offset_sound : (more : List ℕ) (fixup : Fixup) (rest : List ℕ) → ◌≡◌ {A = Found Fixup} (then_in (compressed_in more) (λ offset behind. made (fixups.CheckFieldOffset offset) (field_in behind))) (Some (fixup, rest)) → Begins IsFixup (0x2B ∷ more) fixup rest
+offset_sound : (more : List ℕ) (fixup : Fixup) (rest : List ℕ)
+    → ◌≡◌ {A = Found Fixup} (then_in (compressed_in more) (λ offset behind. made (fixups.CheckFieldOffset offset) (field_in behind))) (Some (fixup, rest))
+    → Begins IsFixup (0x2B ∷ more) fixup rest
 offset_sound more fixup rest e =
     then_of (compressed_in more) (λ offset behind. made (fixups.CheckFieldOffset offset) (field_in behind)) fixup rest e (λ offset behind found told.
     made_of (fixups.CheckFieldOffset offset) (field_in behind) fixup rest told (λ field there same.
@@ -223,7 +235,8 @@ offset_sound more fixup rest e =
     let P : Fixup → Type 0 = λ f. IsFixup (0x2B ∷ s) f in
     (0x2B ∷ s, ap (λ r. 0x2B ∷ r) parts, subst P same (s, refl, h))))
 
-payload_sound : (kind : ℕ) (more : List ℕ) (fixup : Fixup) (rest : List ℕ) → ◌≡◌ {A = Found Fixup} (payload_in kind more) (Some (fixup, rest)) → Begins IsFixup (kind ∷ more) fixup rest
+payload_sound : (kind : ℕ) (more : List ℕ) (fixup : Fixup) (rest : List ℕ)
+    → ◌≡◌ {A = Found Fixup} (payload_in kind more) (Some (fixup, rest)) → Begins IsFixup (kind ∷ more) fixup rest
 unfolding payload_in
 payload_sound kind more fixup rest e =
     chosen (kind == 0x14) (made fixups.MethodEntryDefToken (compressed_in more)) _ (Some (fixup, rest)) e
@@ -326,7 +339,8 @@ pub read_is : (bytes : List ℕ) (at : ℕ) (read : Option (Fixup × ℕ)) → I
 read_is bytes at None found only = sym (next_at-none bytes at (λ fixup next h. let e = only fixup next h in absurd (cc)))
 read_is bytes at (Some (fixup, next)) found only = sym (next_at-found bytes at fixup next found)
 
-pub fixup_at-found : (bytes : List ℕ) (at : ℕ) (fixup : Fixup) (next : ℕ) → BeginsAt IsFixup bytes at fixup next → fixup_at bytes at ≡ Some fixup
+pub fixup_at-found : (bytes : List ℕ) (at : ℕ) (fixup : Fixup) (next : ℕ) → BeginsAt IsFixup bytes at fixup next
+    → fixup_at bytes at ≡ Some fixup
 unfolding fixup_at
 fixup_at-found bytes at fixup next h = rw (next_at-found bytes at fixup next h) refl
 
@@ -338,7 +352,8 @@ found_is (Some (x, rest)) n fixup e =
     (rest, let f : Fixup → Found Fixup = λ y. Some (y, rest) in ap f same)
 
 -- what is computed at a place has a spelling
-pub fixup_at-spelled : (bytes : List ℕ) (at : ℕ) (fixup : Fixup) → fixup_at bytes at ≡ Some fixup → (spelling : List ℕ) × IsFixup spelling fixup
+pub fixup_at-spelled : (bytes : List ℕ) (at : ℕ) (fixup : Fixup) → fixup_at bytes at ≡ Some fixup
+    → (spelling : List ℕ) × IsFixup spelling fixup
 unfolding fixup_at fixup_and_next_at
 fixup_at-spelled bytes at fixup e =
     let (rest, is) = found_is (fixup_in (drop at bytes)) (length bytes) fixup e in
@@ -346,6 +361,7 @@ fixup_at-spelled bytes at fixup e =
     (s, h)
 
 -- the fixup of what was read
-pub fixup_at-read : (bytes : List ℕ) (at : ℕ) (read : Option (Fixup × ℕ)) → read ≡ fixup_and_next_at bytes at → option_map without_next read ≡ fixup_at bytes at
+pub fixup_at-read : (bytes : List ℕ) (at : ℕ) (read : Option (Fixup × ℕ)) → read ≡ fixup_and_next_at bytes at
+    → option_map without_next read ≡ fixup_at bytes at
 unfolding fixup_at
 fixup_at-read bytes at read e = ap (option_map without_next) e

@@ -15,7 +15,7 @@ use Rattle.fixup_sigs.specs.declared.signature.Signature.{Signature}
 abbrev pub signature : ℕ → Payload → Signature
 signature kind payload = record { kind = kind; payload = payload }
 
--- The one table of the kinds: the byte of each, and what stands behind it.
+-- The one table of the kinds: the byte of each, and what follows it.
 abbrev pub signature_of : Fixup → Signature
 signature_of (fixups.MethodEntryDefToken row) = signature 0x14 (payloads.Number row)
 signature_of (fixups.MethodEntryRefToken row) = signature 0x15 (payloads.Number row)

@@ -50,6 +50,6 @@ signature_bytes signature = signature.kind ∷ payload_bytes signature.payload
 abbrev pub fixup_bytes : Fixup → List ℕ
 fixup_bytes fixup = signature_bytes (signature_of fixup)
 
--- the vector has what it had, and maybe more behind it
+-- the vector has what it had, and maybe more after it
 abbrev pub Extends : List ℕ → List ℕ → Type 0
 Extends old new = (more : List ℕ) × (new ≡ old ++ more)

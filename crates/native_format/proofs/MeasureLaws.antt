@@ -18,7 +18,8 @@ use Rattle.native_format.proofs.SparseLengthLaws.{Lens, blocks_more, cap_block, 
 
 -- ---- an element more
 
-below-append : (lengths : Lengths) (limit index len : ℕ) → AreBelow limit lengths → limit ≤ index → AreBelow (index + 1) (lengths ++ (index, len) ∷ [])
+below-append : (lengths : Lengths) (limit index len : ℕ) → AreBelow limit lengths → limit ≤ index
+    → AreBelow (index + 1) (lengths ++ (index, len) ∷ [])
 below-append [] limit index len h le = (omega arith, tt)
 below-append (e ∷ es) limit index len h le = (omega (arith, h.0), below-append es limit index len h.1 le)
 
@@ -27,14 +28,16 @@ unfolding length_at
 other_at [] index len i other = rw (ne_eqb index i other) refl
 other_at (e ∷ es) index len i other = ap (λ (t : Option ℕ). cond (eqb e.0 i) (Some e.1) t) (other_at es index len i other)
 
-here_at : (lengths : Lengths) (limit index len : ℕ) → AreBelow limit lengths → limit ≤ index → length_at (lengths ++ (index, len) ∷ []) index ≡ Some len
+here_at : (lengths : Lengths) (limit index len : ℕ) → AreBelow limit lengths → limit ≤ index
+    → length_at (lengths ++ (index, len) ∷ []) index ≡ Some len
 unfolding length_at
 here_at [] limit index len h le = rw (eq-eqb index index refl) refl
 here_at (e ∷ es) limit index len h le = rw (ne_eqb e.0 index (λ same. omega (arith, h.0, same))) (here_at es limit index len h.1 le)
 
 -- ---- the steps of a measure
 
-pub measure_none : (m : Measure) (count : ℕ) → m.count ≡ count → m.next ≡ 0 → m.block ≡ 0 → m.before ≡ 0 → length m.slots ≡ 16 → ((i : ℕ) → get_or m.slots i None ≡ None) → Measures m count []
+pub measure_none : (m : Measure) (count : ℕ) → m.count ≡ count → m.next ≡ 0 → m.block ≡ 0 → m.before ≡ 0 → length m.slots ≡ 16
+    → ((i : ℕ) → get_or m.slots i None ≡ None) → Measures m count []
 measure_none m count p q r s wide none = record {
   count_is = p;
   none_later = tt;
@@ -48,7 +51,8 @@ measure_none m count p q r s wide none = record {
         (λ i lt. none i ∙ sym (get_or-map (option_map capped) (block_at lengths k) i None None (omega (arith, length-block lengths k)) ∙ ap (option_map capped) (empty i)))
 
 -- the blocks before a later one
-pub before_later : (m : Measure) (count : ℕ) (lengths : Lengths) (k n : ℕ) → Measures m count lengths → m.next ≤ 16 * m.block + 16 → m.block < k → n ≡ capped (block_len m.slots)
+pub before_later : (m : Measure) (count : ℕ) (lengths : Lengths) (k n : ℕ) → Measures m count lengths → m.next ≤ 16 * m.block + 16
+    → m.block < k → n ≡ capped (block_len m.slots)
     → capped (capped (m.before + n) + (k - m.block - 1)) ≡ capped (blocks_len lengths k)
 before_later m count lengths k n h near later n-is =
     let slots : n ≡ capped (block_len (block_at lengths m.block)) = n-is ∙ ap (λ (s : Lens). capped (block_len s)) h.slots_are ∙ cap_block (block_at lengths m.block) in
@@ -56,8 +60,10 @@ before_later m count lengths k n h near later n-is =
     let later_blocks = empty_blocks lengths m.next (m.block + 1) (k - m.block - 1) h.none_later (omega arith) in
     omega (arith, slots, h.before_is, ap (blocks_len lengths) all, later_blocks, blocks_more lengths m.block)
 
-pub measure_later : (old new : Measure) (count : ℕ) (lengths : Lengths) (index : ℕ) → Measures old count lengths → old.next ≤ index → new.count ≡ old.count → new.next ≡ index → 16 * new.block ≤ index
-    → old.next ≤ 16 * new.block → new.before ≡ capped (blocks_len lengths new.block) → length new.slots ≡ 16 → ((i : ℕ) → get_or new.slots i None ≡ None) → Measures new count lengths
+pub measure_later : (old new : Measure) (count : ℕ) (lengths : Lengths) (index : ℕ) → Measures old count lengths → old.next ≤ index
+    → new.count ≡ old.count → new.next ≡ index → 16 * new.block ≤ index
+    → old.next ≤ 16 * new.block → new.before ≡ capped (blocks_len lengths new.block) → length new.slots ≡ 16
+    → ((i : ℕ) → get_or new.slots i None ≡ None) → Measures new count lengths
 measure_later old new count lengths index h order count-is next-is here later before-is wide none = record {
   count_is = count-is ∙ h.count_is;
   none_later = subst (λ (n : ℕ). AreBelow n lengths) (sym next-is) (wider lengths old.next index h.none_later order);
@@ -70,8 +76,10 @@ measure_later old new count lengths index h order count-is next-is here later be
     wider [] limit more h le = tt
     wider (e ∷ es) limit more h le = (omega (arith, h.0), wider es limit more h.1 le)
 
-pub measure_put : (old new : Measure) (count : ℕ) (lengths : Lengths) (index len content : ℕ) → Measures old count lengths → old.next ≤ index → old.block ≡ index / 16 → len ≡ capped content
-    → new.count ≡ old.count → new.next ≡ index + 1 → new.block ≡ old.block → new.before ≡ old.before → new.slots ≡ set old.slots (index % 16) (Some len)
+pub measure_put : (old new : Measure) (count : ℕ) (lengths : Lengths) (index len content : ℕ) → Measures old count lengths
+    → old.next ≤ index → old.block ≡ index / 16 → len ≡ capped content
+    → new.count ≡ old.count → new.next ≡ index + 1 → new.block ≡ old.block → new.before ≡ old.before
+    → new.slots ≡ set old.slots (index % 16) (Some len)
     → Measures new count (lengths ++ (index, content) ∷ [])
 measure_put old new count lengths index len content h order here capped_is count-is next-is block-is before-is slots-is = record {
   count_is = count-is ∙ h.count_is;
@@ -112,7 +120,8 @@ measure_put old new count lengths index len content h order here capped_is count
         ])
 
 -- the length of the whole array, by the bytes of its blocks
-pub measured : (m : Measure) (count : ℕ) (lengths : Lengths) (front body result : ℕ) → Measures m count lengths → front ≡ front_len m.count → result ≡ capped (body + front)
+pub measured : (m : Measure) (count : ℕ) (lengths : Lengths) (front body result : ℕ) → Measures m count lengths → front ≡ front_len m.count
+    → result ≡ capped (body + front)
     → body ≡ capped (blocks_len lengths (blocks_of m.count)) → result ≡ capped (sparse_len count lengths)
 unfolding sparse_len
 measured m count lengths front body result h front-is result-is body-is =

@@ -72,7 +72,8 @@ lost high (n ∷ ns) h =
       | inr le ↦ rw (numbers_more high n ns le) (lost (8 * high + (n - 8)) ns (omega arith))
     ]
 
-pub next_is : (bytes : List ℕ) (high at n : ℕ) → n ≡ get_or (nibbles bytes) at 0 → at < 2 * length bytes → numbers_after high (drop at (nibbles bytes)) ≡ numbers_after high (n ∷ drop (at + 1) (nibbles bytes))
+pub next_is : (bytes : List ℕ) (high at n : ℕ) → n ≡ get_or (nibbles bytes) at 0 → at < 2 * length bytes
+    → numbers_after high (drop at (nibbles bytes)) ≡ numbers_after high (n ∷ drop (at + 1) (nibbles bytes))
 next_is bytes high at n is h =
     rw (drop_more (nibbles bytes) at 0 (omega (arith, length-nibbles bytes)), is) refl
 
@@ -93,7 +94,8 @@ goes_on bytes high at n all is narrow h le e =
     let value : high * 8 + n % 8 ≡ 8 * high + (n - 8) = omega arith in
     rw value (sym (numbers_more high n (drop (at + 1) (nibbles bytes)) le)) ∙ sym (next_is bytes high at n is h) ∙ e
 
-pub ends : (bytes : List ℕ) (high at n start : ℕ) → n ≡ get_or (nibbles bytes) at 0 → at < 2 * length bytes → n < 8 → start ≤ at → high * 8 + n % 8 < 2 ^ 32
+pub ends : (bytes : List ℕ) (high at n start : ℕ) → n ≡ get_or (nibbles bytes) at 0 → at < 2 * length bytes → n < 8 → start ≤ at
+    → high * 8 + n % 8 < 2 ^ 32
     → numbers_after high (drop at (nibbles bytes)) ≡ numbers_from bytes start → ReadsNumber bytes start (high * 8 + n % 8) (at + 1)
 ends bytes high at n start is h lt le fits e =
     let value : high * 8 + n % 8 ≡ 8 * high + n = omega arith in
@@ -104,7 +106,8 @@ ends bytes high at n start is h lt le fits e =
       numbers_are = sym e ∙ next_is bytes high at n is h ∙ rw value (numbers_last high n (drop (at + 1) (nibbles bytes)) lt);
     }
 
-pub cut : (bytes : List ℕ) (high at : ℕ) (all : List ℕ) → 2 * length bytes ≤ at → numbers_after high (drop at (nibbles bytes)) ≡ all → IsLost all
+pub cut : (bytes : List ℕ) (high at : ℕ) (all : List ℕ) → 2 * length bytes ≤ at → numbers_after high (drop at (nibbles bytes)) ≡ all
+    → IsLost all
 unfolding numbers_after
 cut bytes high at all h e =
     let nothing : drop at (nibbles bytes) ≡ [] = drop_all at (nibbles bytes) (omega (arith, length-nibbles bytes)) in
@@ -113,7 +116,8 @@ cut bytes high at all h e =
 
 -- ---- what is written
 
-pub numbers_marked : (high : ℕ) (ds tail : List ℕ) → AllBelowBase 8 ds → numbers_after high (map (λ d. 8 + d) ds ++ tail) ≡ numbers_after (number_from_digits_after 8 high ds) tail
+pub numbers_marked : (high : ℕ) (ds tail : List ℕ) → AllBelowBase 8 ds
+    → numbers_after high (map (λ d. 8 + d) ds ++ tail) ≡ numbers_after (number_from_digits_after 8 high ds) tail
 numbers_marked high [] tail h = refl
 numbers_marked high (d ∷ ds) tail h =
     let value : 8 * high + (8 + d - 8) ≡ high * 8 + d = omega arith in
@@ -221,7 +225,8 @@ pub empty_writer : (bytes : List ℕ) → bytes ≡ [] → nibbles bytes ++ [] �
 unfolding nibbles
 empty_writer bytes e = rw e refl
 
-pub paired : (bytes new now : List ℕ) (half : Option ℕ) (low n : ℕ) → half ≡ Some low → IfSome half (λ k. k < 16) → n < 16 → new ≡ bytes ++ (low + 16 * n) ∷ []
+pub paired : (bytes new now : List ℕ) (half : Option ℕ) (low n : ℕ) → half ≡ Some low → IfSome half (λ k. k < 16) → n < 16
+    → new ≡ bytes ++ (low + 16 * n) ∷ []
     → now ≡ nibbles bytes ++ option_to_list half → nibbles new ++ [] ≡ now ++ n ∷ []
 unfolding nibbles
 paired bytes new now half low n half-is narrow small new-is now-is =
@@ -231,7 +236,8 @@ paired bytes new now half low n half-is narrow small new-is now-is =
     let now-is' : now ≡ nibbles bytes ++ low ∷ [] = now-is ∙ ap (λ (o : Option ℕ). nibbles bytes ++ option_to_list o) half-is in
     append-nil (nibbles new) ∙ ap nibbles new-is ∙ nibbles-append bytes ((low + 16 * n) ∷ []) ∙ rw (low-is, high-is, now-is', append_assoc) refl
 
-pub finished_half : (bytes new now : List ℕ) (half : Option ℕ) (low : ℕ) → half ≡ Some low → new ≡ bytes ++ low ∷ [] → now ≡ nibbles bytes ++ option_to_list half → new ≡ packed now
+pub finished_half : (bytes new now : List ℕ) (half : Option ℕ) (low : ℕ) → half ≡ Some low → new ≡ bytes ++ low ∷ []
+    → now ≡ nibbles bytes ++ option_to_list half → new ≡ packed now
 unfolding packed
 finished_half bytes new now half low half-is new-is now-is =
     new-is ∙ sym (ap packed (now-is ∙ ap (λ (o : Option ℕ). nibbles bytes ++ option_to_list o) half-is) ∙ packed_nibbles bytes (low ∷ []))

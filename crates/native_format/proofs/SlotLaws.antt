@@ -48,12 +48,14 @@ fronted r others list e = go (fits_words r) others refl e where
 
 -- ---- a distance above 0
 
-pub behind_slot : (last : SlotRef) (d : ℕ) (ns : List ℕ) → 0 < d → slots_behind last (d ∷ ns) ≡ with_first (at_slot last.section (last.slot + d)) (slots_behind (at_slot last.section (last.slot + d)) ns)
+pub behind_slot : (last : SlotRef) (d : ℕ) (ns : List ℕ) → 0 < d
+    → slots_behind last (d ∷ ns) ≡ with_first (at_slot last.section (last.slot + d)) (slots_behind (at_slot last.section (last.slot + d)) ns)
 unfolding slots_behind
 behind_slot last zero ns h = absurd (omega arith)
 behind_slot last (suc d) ns h = refl
 
-pub behind_section : (last : SlotRef) (d slot : ℕ) (ns : List ℕ) → 0 < d → slots_behind last (0 ∷ d ∷ slot ∷ ns) ≡ with_first (at_slot (last.section + d) slot) (slots_behind (at_slot (last.section + d) slot) ns)
+pub behind_section : (last : SlotRef) (d slot : ℕ) (ns : List ℕ) → 0 < d
+    → slots_behind last (0 ∷ d ∷ slot ∷ ns) ≡ with_first (at_slot (last.section + d) slot) (slots_behind (at_slot (last.section + d) slot) ns)
 unfolding slots_behind
 behind_section last zero slot ns h = absurd (omega arith)
 behind_section last (suc d) slot ns h = refl
@@ -62,7 +64,8 @@ behind_section last (suc d) slot ns h = refl
 abbrev pub with_front : Slots → Option Slots → Option Slots
 with_front front others = option_map (λ rs. front ++ rs) others
 
-pub front_more : (front : Slots) (r : SlotRef) (others : Option Slots) → with_front front (option_map (λ rs. r ∷ rs) others) ≡ with_front (front ++ r ∷ []) others
+pub front_more : (front : Slots) (r : SlotRef) (others : Option Slots)
+    → with_front front (option_map (λ rs. r ∷ rs) others) ≡ with_front (front ++ r ∷ []) others
 front_more front r None = refl
 front_more front r (Some rs) = ap (λ (l : Slots). Some l) (sym (append_assoc front (r ∷ []) rs))
 
@@ -72,7 +75,8 @@ front_none (Some rs) = refl
 
 -- ---- what is spelled is read
 
-all_behind : (last : SlotRef) (list : Slots) (behind : List ℕ) → AscendFrom last list → AllByRecursion FitsWords list → slots_behind last (numbers_after_slot last list ++ behind) ≡ Some list
+all_behind : (last : SlotRef) (list : Slots) (behind : List ℕ) → AscendFrom last list → AllByRecursion FitsWords list
+    → slots_behind last (numbers_after_slot last list ++ behind) ≡ Some list
 unfolding slots_behind numbers_after_slot
 all_behind last [] behind ascend fit = refl
 all_behind last (r ∷ rs) behind (inl lower, ascend) fit =
@@ -85,7 +89,8 @@ all_behind last (r ∷ rs) behind (inr same, ascend) fit =
     let section : last.section ≡ r.section = same.0 in
     rw equal (behind_slot last (r.slot - last.slot) (numbers_after_slot r rs ++ behind) (omega (arith, same.1)) ∙ rw (sum, section) (ap (with_first r) (all_behind r rs behind ascend fit.1) ∙ first_fits r rs fit.0))
 
-pub all_of : (list : Slots) (behind : List ℕ) → IsSlotList list → AllByRecursion FitsWords list → slots_of (numbers_of list ++ behind) ≡ Some list
+pub all_of : (list : Slots) (behind : List ℕ) → IsSlotList list → AllByRecursion FitsWords list
+    → slots_of (numbers_of list ++ behind) ≡ Some list
 unfolding slots_of numbers_of
 all_of [] behind ascend fit = absurd ascend
 all_of (r ∷ rs) behind ascend fit = ap (with_first r) (all_behind r rs behind ascend fit.1) ∙ first_fits r rs fit.0
@@ -139,11 +144,13 @@ read_numbers bytes (section ∷ slot ∷ ns) list is e =
 pub read_list : (bytes : List ℕ) (list : Slots) → slots_of (numbers (nibbles bytes)) ≡ Some list → BeginsWithList bytes list
 read_list bytes list e = read_numbers bytes (numbers (nibbles bytes)) list refl e
 
-pub is_found : (bytes : List ℕ) (at : ℕ) (r : Result (Vec SlotRef) ListRefusal) → GivesList r (list_at bytes at) → IfOk r (λ v. BeginsWithList (drop at bytes) v.items)
+pub is_found : (bytes : List ℕ) (at : ℕ) (r : Result (Vec SlotRef) ListRefusal) → GivesList r (list_at bytes at)
+    → IfOk r (λ v. BeginsWithList (drop at bytes) v.items)
 is_found bytes at (Ok v) e = read_list (drop at bytes) v.items e
 is_found bytes at (Err e) given = tt
 
-pub is_read : (bytes : List ℕ) (at : ℕ) (list : Slots) → AllByRecursion FitsWords list → BeginsWithList (drop at bytes) list → list_at bytes at ≡ Some list
+pub is_read : (bytes : List ℕ) (at : ℕ) (list : Slots) → AllByRecursion FitsWords list → BeginsWithList (drop at bytes) list
+    → list_at bytes at ≡ Some list
 is_read bytes at list fit h = ap slots_of h.spelled ∙ all_of list h.behind h.ascending fit
 
 -- ---- what is written is spelled, whatever follows
@@ -209,7 +216,8 @@ reads bytes list start at slot further within fit is = record { further = furthe
 pub list_from_nibble : (bytes : List ℕ) (at : ℕ) → slots_of (numbers_from bytes (2 * at)) ≡ list_at bytes at
 list_from_nibble bytes at = ap (λ (ns : List ℕ). slots_of (numbers ns)) (nibbles-drop at bytes)
 
-pub slots_of_two : (section slot : ℕ) (ns : List ℕ) → slots_of (section ∷ slot ∷ ns) ≡ with_first (at_slot section slot) (slots_behind (at_slot section slot) ns)
+pub slots_of_two : (section slot : ℕ) (ns : List ℕ)
+    → slots_of (section ∷ slot ∷ ns) ≡ with_first (at_slot section slot) (slots_behind (at_slot section slot) ns)
 unfolding slots_of
 slots_of_two section slot ns = refl
 
@@ -235,7 +243,8 @@ complete front others all ended e = sym e ∙ ap (with_front front) ended ∙ ap
 
 -- ---- the loop of the writer
 
-pub in_order : (last : SlotRef) (list : Slots) (i : ℕ) (slot d : SlotRef) → i < length list → slot ≡ get_or list i d → AscendFrom last (drop i list) → Precedes last slot × AscendFrom slot (drop (i + 1) list)
+pub in_order : (last : SlotRef) (list : Slots) (i : ℕ) (slot d : SlotRef) → i < length list → slot ≡ get_or list i d
+    → AscendFrom last (drop i list) → Precedes last slot × AscendFrom slot (drop (i + 1) list)
 in_order last list i slot d lt is h =
     let next : drop i list ≡ slot ∷ drop (i + 1) list = drop_more list i d lt ∙ ap (λ (r : SlotRef). r ∷ drop (i + 1) list) (sym is) in
     subst (AscendFrom last) next h
@@ -251,7 +260,8 @@ put_one old new all last list i slot d lt is new-is e =
     let split : flat_map groups (numbers_after_slot last (drop i list)) ≡ flat_map groups (numbers_between last slot) ++ flat_map groups others = ap (λ (l : Slots). flat_map groups (numbers_after_slot last l)) next ∙ flat_map-append groups (numbers_between last slot) others in
     ap (λ (l : List ℕ). l ++ flat_map groups others) new-is ∙ append_assoc old _ _ ∙ ap (λ (l : List ℕ). old ++ l) (sym split) ∙ e
 
-pub put_last : (old one new all : List ℕ) (last : SlotRef) (list : Slots) (i : ℕ) → length list ≤ i → one ≡ old ++ groups 0 → new ≡ one ++ groups 0
+pub put_last : (old one new all : List ℕ) (last : SlotRef) (list : Slots) (i : ℕ) → length list ≤ i → one ≡ old ++ groups 0
+    → new ≡ one ++ groups 0
     → old ++ flat_map groups (numbers_after_slot last (drop i list)) ≡ all → new ≡ all
 unfolding numbers_after_slot
 put_last old one new all last list i le one-is new-is e =
@@ -270,7 +280,8 @@ pub others_ascend : (list : Slots) (first d : SlotRef) → first ≡ get_or list
 others_ascend list first d is h = subst IsSlotList (first_and_others list first d is h) h
 
 pub put_all : (list : Slots) (first d : SlotRef) (old one two new : List ℕ) → first ≡ get_or list 0 d → IsSlotList list
-    → one ≡ old ++ groups first.section → two ≡ one ++ groups first.slot → new ≡ two ++ flat_map groups (numbers_after_slot first (take (length list - 1) (drop 1 list)))
+    → one ≡ old ++ groups first.section → two ≡ one ++ groups first.slot
+    → new ≡ two ++ flat_map groups (numbers_after_slot first (take (length list - 1) (drop 1 list)))
     → new ≡ old ++ flat_map groups (numbers_of list)
 unfolding numbers_of
 put_all list first d old one two new is h one-is two-is new-is =

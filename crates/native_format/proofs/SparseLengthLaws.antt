@@ -75,7 +75,8 @@ fork_five low g = last_number low (omega arith) ∙ is_five (fork_in low 4) (ome
 -- ---- of a tree
 
 -- the length of a written tree is what its contents' lengths say
-pub tree_len_is : (ws : List ℕ) (slots : List (Option (List ℕ))) → option_map length (tree ws slots) ≡ tree_len ws (map (option_map length) slots)
+pub tree_len_is : (ws : List ℕ) (slots : List (Option (List ℕ)))
+    → option_map length (tree ws slots) ≡ tree_len ws (map (option_map length) slots)
 unfolding tree tree_len
 tree_len_is [] [] = refl
 tree_len_is [] (s ∷ slots) = refl
@@ -91,7 +92,8 @@ abbrev pub upper_lens : ℕ → Lens → Lens
 upper_lens w slots = take (length slots - w) (drop w slots)
 
 -- lengths that stop at the last value of u64
-pub cap_node : (l h : Option ℕ) → option_map capped (node_len (option_map capped l) (option_map capped h)) ≡ option_map capped (node_len l h)
+pub cap_node : (l h : Option ℕ)
+    → option_map capped (node_len (option_map capped l) (option_map capped h)) ≡ option_map capped (node_len l h)
 cap_node None None = refl
 cap_node (Some l) None = ap (λ (n : ℕ). Some n) (omega arith)
 cap_node None (Some h) = ap (λ (n : ℕ). Some n) (omega arith)
@@ -101,7 +103,8 @@ cap_node (Some l) (Some h) =
       | inr le ↦ ap (λ (n : ℕ). Some n) (omega arith)
     ]
 
-pub cap_tree : (ws : List ℕ) (slots : Lens) → option_map capped (tree_len ws (map (option_map capped) slots)) ≡ option_map capped (tree_len ws slots)
+pub cap_tree : (ws : List ℕ) (slots : Lens)
+    → option_map capped (tree_len ws (map (option_map capped) slots)) ≡ option_map capped (tree_len ws slots)
 unfolding tree_len
 cap_tree [] [] = refl
 cap_tree [] (None ∷ slots) = refl
@@ -171,25 +174,29 @@ len_step ws slots low high result h p q is =
     ∙ cap_step low high (tree_len (below ws) (take (get_or ws 0 0) slots)) (tree_len (below ws) (upper_lens (get_or ws 0 0) slots)) p q
     ∙ ap (option_map capped) (sym (len_halves ws slots h))
 
-pub len_leaf : (ws : List ℕ) (slots : Lens) → length ws < 1 → option_map capped (get_or slots 0 None) ≡ option_map capped (tree_len ws slots)
+pub len_leaf : (ws : List ℕ) (slots : Lens) → length ws < 1
+    → option_map capped (get_or slots 0 None) ≡ option_map capped (tree_len ws slots)
 unfolding tree_len
 len_leaf [] [] h = refl
 len_leaf [] (s ∷ slots) h = refl
 len_leaf (w ∷ ws) slots h = absurd (omega arith)
 
 -- of a block, as it was added up
-pub block_is : (slots : Lens) (r : Option ℕ) (result : ℕ) → option_map capped r ≡ option_map capped (tree_len weights slots) → result ≡ unwrap_or r 1 → result < 2 ^ 64
+pub block_is : (slots : Lens) (r : Option ℕ) (result : ℕ) → option_map capped r ≡ option_map capped (tree_len weights slots)
+    → result ≡ unwrap_or r 1 → result < 2 ^ 64
     → result ≡ capped (block_len slots)
 block_is slots r result e is small =
     let kept : result ≡ capped result = omega arith in
     kept ∙ ap capped is ∙ sym (cap_or r) ∙ ap (λ (t : Option ℕ). unwrap_or t 1) e ∙ cap_or (tree_len weights slots)
 
-pub wide_lower : (ws : List ℕ) (slots : Lens) → 1 ≤ length ws → AreSlots ws (length slots) → AreSlots (below ws) (length (take (get_or ws 0 0) slots))
+pub wide_lower : (ws : List ℕ) (slots : Lens) → 1 ≤ length ws → AreSlots ws (length slots)
+    → AreSlots (below ws) (length (take (get_or ws 0 0) slots))
 wide_lower ws slots h wide =
     let p = wide_split ws (length slots) h wide in
     rw (length-take-le (get_or ws 0 0) slots (omega (arith, p.0))) p.1
 
-pub wide_upper : (ws : List ℕ) (slots : Lens) → 1 ≤ length ws → AreSlots ws (length slots) → AreSlots (below ws) (length (upper_lens (get_or ws 0 0) slots))
+pub wide_upper : (ws : List ℕ) (slots : Lens) → 1 ≤ length ws → AreSlots ws (length slots)
+    → AreSlots (below ws) (length (upper_lens (get_or ws 0 0) slots))
 wide_upper ws slots h wide =
     let p = wide_split ws (length slots) h wide in
     let half : length (upper_lens (get_or ws 0 0) slots) ≡ get_or ws 0 0 = ap length (take_rest slots (get_or ws 0 0)) ∙ omega (arith, p.0, length-drop (get_or ws 0 0) slots) in
@@ -246,7 +253,8 @@ past_block lengths k i le = beyond (block_at lengths k) i (omega (arith, length-
   beyond (x ∷ xs) zero le = absurd (omega arith)
   beyond (x ∷ xs) (suc i) le = beyond xs i (omega arith)
 
-pub same_block : (a b : Lengths) (k : ℕ) → ((i : ℕ) → i < 16 → length_at a (16 * k + i) ≡ length_at b (16 * k + i)) → block_at a k ≡ block_at b k
+pub same_block : (a b : Lengths) (k : ℕ) → ((i : ℕ) → i < 16 → length_at a (16 * k + i) ≡ length_at b (16 * k + i))
+    → block_at a k ≡ block_at b k
 same_block a b k same =
     ext_get_or None (block_at a k) (block_at b k) (length-block a k ∙ sym (length-block b k))
     (λ i lt. let i_lt : i < 16 = omega (arith, length-block a k) in in_block a k i i_lt ∙ same i i_lt ∙ sym (in_block b k i i_lt))
@@ -265,7 +273,8 @@ unfolding length_at
 none_at [] limit i h le = refl
 none_at (e ∷ es) limit i h le = rw (ne_eqb e.0 i (λ same. omega (arith, h.0, same))) (none_at es limit i h.1 le)
 
-pub empty_block : (lengths : Lengths) (limit k : ℕ) → AreBelow limit lengths → limit ≤ 16 * k → (i : ℕ) → get_or (block_at lengths k) i None ≡ None
+pub empty_block : (lengths : Lengths) (limit k : ℕ) → AreBelow limit lengths → limit ≤ 16 * k → (i : ℕ)
+    → get_or (block_at lengths k) i None ≡ None
 empty_block lengths limit k h le i =
     elim (cases_lt i 16) [
       | inl lt ↦ in_block lengths k i lt ∙ none_at lengths limit (16 * k + i) h (omega arith)
@@ -273,7 +282,8 @@ empty_block lengths limit k h le i =
     ]
 
 -- an empty block has one byte
-pub empty_blocks : (lengths : Lengths) (limit k n : ℕ) → AreBelow limit lengths → limit ≤ 16 * k → blocks_len lengths (k + n) ≡ blocks_len lengths k + n
+pub empty_blocks : (lengths : Lengths) (limit k n : ℕ) → AreBelow limit lengths → limit ≤ 16 * k
+    → blocks_len lengths (k + n) ≡ blocks_len lengths k + n
 empty_blocks lengths limit k zero h le = let e : k + 0 ≡ k = omega arith in rw e (omega arith)
 empty_blocks lengths limit k (suc n) h le =
     let next : k + suc n ≡ k + n + 1 = omega arith in

@@ -52,7 +52,8 @@ absent_above (e ∷ es) least count i h le =
     let apart : e.index ≡ i → ⊥ = λ same. omega (arith, h.1) in
     rw (ne_eqb _ _ apart) (absent_above es (e.index + 1) count i h.2 le)
 
-pub first_other : (es : Elements) (e : Element) (i count : ℕ) → slice_get es 0 ≡ Some e → AreElements i count es → (e.index ≡ i → ⊥) → content_by_index es i ≡ None
+pub first_other : (es : Elements) (e : Element) (i count : ℕ) → slice_get es 0 ≡ Some e → AreElements i count es → (e.index ≡ i → ⊥)
+    → content_by_index es i ≡ None
 unfolding content_by_index
 first_other [] e i count h are other = refl
 first_other (x ∷ es) e i count h are other =
@@ -89,7 +90,8 @@ entry_is at (b ∷ bs) (suc k) front behind lt h =
 
 -- ---- blocks in their order
 
-pub block_between : (bs : List (List ℕ)) (k : ℕ) → k < length bs → joined bs ≡ joined (take k bs) ++ (get_or bs k [] ++ joined (drop (k + 1) bs))
+pub block_between : (bs : List (List ℕ)) (k : ℕ) → k < length bs
+    → joined bs ≡ joined (take k bs) ++ (get_or bs k [] ++ joined (drop (k + 1) bs))
 block_between bs k lt =
     ap joined (sym (take-append-drop k bs)) ∙ flat_map-append (λ b. b) (take k bs) (drop k bs) ∙ ap (λ (l : List (List ℕ)). joined (take k bs) ++ joined l) (drop_more bs k [] lt)
 
@@ -160,7 +162,8 @@ unfolding element_of
 element_past bytes header count i le = rw (le-ltb i count le) refl
 
 -- the header says the count, and entries of four bytes
-header_is : (bytes behind : List ℕ) (count : ℕ) → 4 * count + 2 < 2 ^ 32 → bytes ≡ short_uint (4 * count + 2) ++ behind → length (short_uint (4 * count + 2)) + 4 * blocks_of count ≤ length bytes
+header_is : (bytes behind : List ℕ) (count : ℕ) → 4 * count + 2 < 2 ^ 32 → bytes ≡ short_uint (4 * count + 2) ++ behind
+    → length (short_uint (4 * count + 2)) + 4 * blocks_of count ≤ length bytes
     → array_at bytes 0 ≡ Some (array_in bytes (length (short_uint (4 * count + 2))) count)
 unfolding array_at
 header_is bytes behind count small is long =
@@ -179,7 +182,8 @@ record Written (bytes : List ℕ) (count : ℕ) (es : Elements) : Type 0 where
   count_is : array.count ≡ count
   each : (index : ℕ) → FindsAt bytes 0 (element_of array index) (content_place count (lengths_of es) index) (content_by_index es index)
 
-written : (count : ℕ) (es : Elements) (rest : List ℕ) → AreElements 0 count es → length (sparse_bytes count es) < 2 ^ 24 → Written (sparse_bytes count es ++ rest) count es
+written : (count : ℕ) (es : Elements) (rest : List ℕ) → AreElements 0 count es → length (sparse_bytes count es) < 2 ^ 24
+    → Written (sparse_bytes count es ++ rest) count es
 unfolding sparse_bytes content_place
 written count es rest are small =
     let n = blocks_of count in
@@ -205,13 +209,15 @@ written count es rest are small =
       each = each;
     }
 
-found_of : (bytes : List ℕ) (answer : Answer) (place : Option ℕ) (slot : Option (List ℕ)) → FindsAt bytes 0 answer place slot → Finds bytes answer slot
+found_of : (bytes : List ℕ) (answer : Answer) (place : Option ℕ) (slot : Option (List ℕ)) → FindsAt bytes 0 answer place slot
+    → Finds bytes answer slot
 found_of bytes answer None None h = h
 found_of bytes answer None (Some content) h = absurd h
 found_of bytes answer (Some place) None h = absurd h
 found_of bytes answer (Some place) (Some content) (is, stands) = (0 + place, is, stands)
 
-answer_of : (bytes : List ℕ) (answer : Answer) (place : Option ℕ) (slot : Option (List ℕ)) → FindsAt bytes 0 answer place slot → answer ≡ Ok place
+answer_of : (bytes : List ℕ) (answer : Answer) (place : Option ℕ) (slot : Option (List ℕ)) → FindsAt bytes 0 answer place slot
+    → answer ≡ Ok place
 answer_of bytes answer None None h = h
 answer_of bytes answer None (Some content) h = absurd h
 answer_of bytes answer (Some place) None h = absurd h
@@ -219,7 +225,8 @@ answer_of bytes answer (Some place) (Some content) (is, stands) =
     let at : 0 + place ≡ place = omega arith in
     subst (λ (n : ℕ). answer ≡ Ok (Some n)) at is
 
-stands_of : (bytes : List ℕ) (answer : Answer) (at : Option ℕ) (slot : Option (List ℕ)) (place : ℕ) → FindsAt bytes 0 answer at slot → at ≡ Some place
+stands_of : (bytes : List ℕ) (answer : Answer) (at : Option ℕ) (slot : Option (List ℕ)) (place : ℕ) → FindsAt bytes 0 answer at slot
+    → at ≡ Some place
     → (content : List ℕ) × (slot ≡ Some content) × StandsAt bytes place content
 stands_of bytes answer None None place h e = absurd (none-some place e)
 stands_of bytes answer None (Some content) place h e = absurd h
@@ -228,7 +235,8 @@ stands_of bytes answer (Some at) (Some content) place (is, stands) e =
     let same : 0 + at ≡ place = omega (arith, same_Some at place e) in
     (content, refl, subst (λ (n : ℕ). StandsAt bytes n content) same stands)
 
-pub holds : (count : ℕ) (es : Elements) (rest : List ℕ) → AreElements 0 count es → length (sparse_bytes count es) < 2 ^ 24 → HoldsElements (sparse_bytes count es ++ rest) count es
+pub holds : (count : ℕ) (es : Elements) (rest : List ℕ) → AreElements 0 count es → length (sparse_bytes count es) < 2 ^ 24
+    → HoldsElements (sparse_bytes count es ++ rest) count es
 holds count es rest are small =
     let w = written count es rest are small in
     record {
@@ -239,7 +247,8 @@ holds count es rest are small =
     }
 
 -- and where, by the lengths alone
-pub placed : (count : ℕ) (es : Elements) (rest : List ℕ) → AreElements 0 count es → sparse_len count (lengths_of es) < 2 ^ 24 → HoldsPlaced (sparse_bytes count es ++ rest) count es
+pub placed : (count : ℕ) (es : Elements) (rest : List ℕ) → AreElements 0 count es → sparse_len count (lengths_of es) < 2 ^ 24
+    → HoldsPlaced (sparse_bytes count es ++ rest) count es
 placed count es rest are small =
     let w = written count es rest are (omega (arith, sparse_len_is count es)) in
     let bytes = sparse_bytes count es ++ rest in
@@ -252,7 +261,8 @@ placed count es rest are small =
 
 -- ---- the slots of a block, one after the other
 
-pub behind_found : (es : Elements) (i : ℕ) (c : List ℕ) → AreElements i (2 ^ 32) es → Some c ≡ content_by_index es i → (1 ≤ length es) × AreElements (i + 1) (2 ^ 32) (drop 1 es) × SameFrom (i + 1) es (drop 1 es)
+pub behind_found : (es : Elements) (i : ℕ) (c : List ℕ) → AreElements i (2 ^ 32) es → Some c ≡ content_by_index es i
+    → (1 ≤ length es) × AreElements (i + 1) (2 ^ 32) (drop 1 es) × SameFrom (i + 1) es (drop 1 es)
 unfolding content_by_index
 behind_found [] i c are e = absurd (none-some c (sym e))
 behind_found (x ∷ es) i c are e =
@@ -274,14 +284,16 @@ behind_none (x ∷ es) i are e =
       | inr other ↦ (omega (arith, are.0, other), are.1, are.2)
     ]
 
-pub all_slots : (xs : List (Option (Bor (List ℕ)))) (es : Elements) (first n : ℕ) → length xs ≡ n → ((k : ℕ) → k < n → option_copied (get_or xs k None) ≡ content_by_index es (first + k)) → contents xs ≡ slots_from es first n
+pub all_slots : (xs : List (Option (Bor (List ℕ)))) (es : Elements) (first n : ℕ) → length xs ≡ n
+    → ((k : ℕ) → k < n → option_copied (get_or xs k None) ≡ content_by_index es (first + k)) → contents xs ≡ slots_from es first n
 unfolding slots_from
 all_slots xs es first n len each =
     ext_get_or None (contents xs) (map (content_by_index es) (range_with_len first n)) (length-map xs option_copied ∙ len ∙ sym (length-map-range_with_len (content_by_index es) first n))
     (λ k lt. let k_lt : k < n = omega (arith, length-map xs option_copied) in
     get_or-map option_copied xs k None None (omega arith) ∙ each k k_lt ∙ sym (get_or-map-range_with_len (content_by_index es) first n k (first + k) None k_lt refl))
 
-pub set_slot : (xs : List (Option (Bor (List ℕ)))) (es rest : Elements) (first i : ℕ) (slot : Option (Bor (List ℕ))) → i < length xs → option_copied slot ≡ content_by_index rest (first + i)
+pub set_slot : (xs : List (Option (Bor (List ℕ)))) (es rest : Elements) (first i : ℕ) (slot : Option (Bor (List ℕ))) → i < length xs
+    → option_copied slot ≡ content_by_index rest (first + i)
     → SameFrom (first + i) es rest → ((k : ℕ) → k < i → option_copied (get_or xs k None) ≡ content_by_index es (first + k))
     → (k : ℕ) → k < i + 1 → option_copied (get_or (set xs i slot) k None) ≡ content_by_index es (first + k)
 set_slot xs es rest first i slot lt slot-is same before k k_lt =
@@ -298,7 +310,8 @@ same_on es rest behind m n le p q k k_le = q k k_le ∙ p k (omega arith)
 blocks_more : (es : Elements) (k : ℕ) → blocks es (k + 1) ≡ blocks es k ++ block es k ∷ []
 blocks_more es k = map-range_with_len_more (block es) 0 k k (omega arith)
 
-pub index_more : (at : ℕ) (bs : List (List ℕ)) (b : List ℕ) → index_bytes at (bs ++ b ∷ []) ≡ index_bytes at bs ++ little_bytes 4 (at + length (joined bs))
+pub index_more : (at : ℕ) (bs : List (List ℕ)) (b : List ℕ)
+    → index_bytes at (bs ++ b ∷ []) ≡ index_bytes at bs ++ little_bytes 4 (at + length (joined bs))
 unfolding index_bytes
 index_more at [] b = let e : at + 0 ≡ at = omega arith in rw e (append-nil (little_bytes 4 at))
 index_more at (x ∷ bs) b =
@@ -308,11 +321,13 @@ index_more at (x ∷ bs) b =
 joined_more : (bs : List (List ℕ)) (b : List ℕ) → joined (bs ++ b ∷ []) ≡ joined bs ++ b
 joined_more bs b = flat_map-append (λ x. x) bs (b ∷ []) ∙ ap (λ (t : List ℕ). joined bs ++ t) (append-nil b)
 
-pub add_entry : (es : Elements) (at k place : ℕ) (old new body : List ℕ) → place ≡ at + length body → body ≡ joined (blocks es k) → new ≡ old ++ little_bytes 4 place → old ≡ index_bytes at (blocks es k) → new ≡ index_bytes at (blocks es (k + 1))
+pub add_entry : (es : Elements) (at k place : ℕ) (old new body : List ℕ) → place ≡ at + length body → body ≡ joined (blocks es k)
+    → new ≡ old ++ little_bytes 4 place → old ≡ index_bytes at (blocks es k) → new ≡ index_bytes at (blocks es (k + 1))
 add_entry es at k place old new body place-is body-is new-is old-is =
     new-is ∙ rw (place-is, body-is, old-is) (sym (index_more at (blocks es k) (block es k))) ∙ ap (index_bytes at) (sym (blocks_more es k))
 
-pub add_block : (es : Elements) (k : ℕ) (old new : List ℕ) → new ≡ old ++ block es k → old ≡ joined (blocks es k) → new ≡ joined (blocks es (k + 1))
+pub add_block : (es : Elements) (k : ℕ) (old new : List ℕ) → new ≡ old ++ block es k → old ≡ joined (blocks es k)
+    → new ≡ joined (blocks es (k + 1))
 add_block es k old new new-is old-is = new-is ∙ ap (λ (t : List ℕ). t ++ block es k) old-is ∙ sym (joined_more (blocks es k) (block es k)) ∙ ap joined (sym (blocks_more es k))
 
 -- the slots of a block, by what is left of the elements
@@ -323,7 +338,8 @@ same_slots es rest first n same =
     (λ k lt. let k_lt : k < n = omega (arith, length-map-range_with_len (content_by_index rest) first n) in
     get_or-map-range_with_len (content_by_index rest) first n k (first + k) None k_lt refl ∙ same (first + k) (omega arith) ∙ sym (get_or-map-range_with_len (content_by_index es) first n k (first + k) None k_lt refl))
 
-pub block_from : (es rest : Elements) (k : ℕ) (slots : List (Option (List ℕ))) → slots ≡ slots_from rest (16 * k) 16 → SameFrom (16 * k) es rest → block_bytes slots ≡ block es k
+pub block_from : (es rest : Elements) (k : ℕ) (slots : List (Option (List ℕ))) → slots ≡ slots_from rest (16 * k) 16
+    → SameFrom (16 * k) es rest → block_bytes slots ≡ block es k
 block_from es rest k slots is same = ap block_bytes (is ∙ same_slots es rest (16 * k) 16 same)
 
 pub body_small : (es : Elements) (n k : ℕ) → k ≤ n → length (joined (blocks es n)) < 2 ^ 24 → length (joined (blocks es k)) < 2 ^ 24
@@ -341,7 +357,8 @@ tree_small : (t : Option (List ℕ)) → length (unwrap_or t (short_uint 64)) < 
 tree_small None h = tt
 tree_small (Some t) h = h
 
-pub slots_small : (es rest : Elements) (n k : ℕ) (slots : List (Option (List ℕ))) → k < n → length (joined (blocks es n)) < 2 ^ 24 → slots ≡ slots_from rest (16 * k) 16 → SameFrom (16 * k) es rest → IsSmall (tree weights slots)
+pub slots_small : (es rest : Elements) (n k : ℕ) (slots : List (Option (List ℕ))) → k < n → length (joined (blocks es n)) < 2 ^ 24
+    → slots ≡ slots_from rest (16 * k) 16 → SameFrom (16 * k) es rest → IsSmall (tree weights slots)
 slots_small es rest n k slots lt small is same = tree_small (tree weights slots) (rw (block_from es rest k slots is same) (block_small es n k lt small))
 
 -- ---- what the whole asks of its parts
@@ -365,7 +382,8 @@ parts_small count es small =
     let entries : length (index_bytes (4 * n) bs) ≡ 4 * n = length-index (4 * n) bs ∙ ap (λ (m : ℕ). 4 * m) (length-blocks es n) in
     record { few = omega (arith, sizes, inner, entries, small); small = omega (arith, sizes, inner, small) }
 
-pub whole_is : (count n : ℕ) (es : Elements) (header one two index body : List ℕ) → n ≡ blocks_of count → header ≡ [] ++ short_uint (4 * count + 2) → one ≡ header ++ index → two ≡ one ++ body
+pub whole_is : (count n : ℕ) (es : Elements) (header one two index body : List ℕ) → n ≡ blocks_of count
+    → header ≡ [] ++ short_uint (4 * count + 2) → one ≡ header ++ index → two ≡ one ++ body
     → index ≡ index_bytes (4 * n) (blocks es n) → body ≡ joined (blocks es n) → two ≡ sparse_bytes count es
 unfolding sparse_bytes
 whole_is count n es header one two index body n-is header-is one-is two-is index-is body-is =

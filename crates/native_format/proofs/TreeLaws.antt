@@ -19,7 +19,8 @@ Slots = List (Option (List ℕ))
 
 -- ---- a written integer is read where it stands
 
-pub uint_written : (front behind : List ℕ) (v : ℕ) → v < 2 ^ 32 → uint_at (front ++ (short_uint v ++ behind)) (length front) ≡ Some (v, length front + length (short_uint v))
+pub uint_written : (front behind : List ℕ) (v : ℕ) → v < 2 ^ 32
+    → uint_at (front ++ (short_uint v ++ behind)) (length front) ≡ Some (v, length front + length (short_uint v))
 unfolding uint_at
 uint_written front behind v h =
     rw (drop_at front (short_uint v ++ behind) (length front) refl, leading_of v (short_uint v) behind (short_spells v h)) refl
@@ -83,7 +84,8 @@ node_none (Some l) None e = absurd (none-some (short_uint 1 ++ l) (sym e))
 node_none None (Some r) e = absurd (none-some (short_uint 6 ++ r) (sym e))
 node_none (Some l) (Some r) e = absurd (none-some (short_uint (fork_number (length l)) ++ (l ++ r)) (sym e))
 
-either : (low : ℕ) (ws : List ℕ) (b : Bool) (x y : Slots) → slot_by low ws x ≡ None → slot_by low ws y ≡ None → slot_by low ws (cond b x y) ≡ None
+either : (low : ℕ) (ws : List ℕ) (b : Bool) (x y : Slots) → slot_by low ws x ≡ None → slot_by low ws y ≡ None
+    → slot_by low ws (cond b x y) ≡ None
 either low ws true x y p q = p
 either low ws false x y p q = q
 
@@ -96,15 +98,18 @@ empty_slot low (w ∷ ws) slots e =
 
 -- ---- one step
 
-step_is : (bytes : List ℕ) (low w at v behind : ℕ) (b : Bool) → bit_of low w ≡ b → uint_at bytes at ≡ Some (v, behind) → step_at bytes low w at ≡ step_of bytes low b at (Some (v, behind))
+step_is : (bytes : List ℕ) (low w at v behind : ℕ) (b : Bool) → bit_of low w ≡ b → uint_at bytes at ≡ Some (v, behind)
+    → step_at bytes low w at ≡ step_of bytes low b at (Some (v, behind))
 unfolding step_at
 step_is bytes low w at v behind b p q = ap (λ (c : Bool). step_of bytes low c at (uint_at bytes at)) p ∙ ap (step_of bytes low b at) q
 
-to_child : (bytes : List ℕ) (low w : ℕ) (ws : List ℕ) (at next : ℕ) → step_at bytes low w at ≡ Ok (steps.Child next) → path bytes low (w ∷ ws) at ≡ path bytes low ws next
+to_child : (bytes : List ℕ) (low w : ℕ) (ws : List ℕ) (at next : ℕ) → step_at bytes low w at ≡ Ok (steps.Child next)
+    → path bytes low (w ∷ ws) at ≡ path bytes low ws next
 unfolding path
 to_child bytes low w ws at next e = ap (onward (path bytes low ws)) e
 
-to_nothing : (bytes : List ℕ) (low w : ℕ) (ws : List ℕ) (at : ℕ) → step_at bytes low w at ≡ Ok steps.Absent → path bytes low (w ∷ ws) at ≡ Ok None
+to_nothing : (bytes : List ℕ) (low w : ℕ) (ws : List ℕ) (at : ℕ) → step_at bytes low w at ≡ Ok steps.Absent
+    → path bytes low (w ∷ ws) at ≡ Ok None
 unfolding path
 to_nothing bytes low w ws at e = ap (onward (path bytes low ws)) e
 
@@ -180,7 +185,8 @@ to_fork low w l r front behind v v-is true bit read low_small high_small =
     let step : step_at bytes low w (length front) ≡ Ok (steps.Child (length front + (length node + length l))) = step_is bytes low w (length front) v _ true bit read ∙ rw (eq-eqb _ _ set, distance, inside) refl in
     (step, record { front = before; behind = behind; place_is = sym before_len; bytes_are = sym regrouped }, high_small)
 
-fork : (low w : ℕ) (l r front behind : List ℕ) (b : Bool) → bit_of low w ≡ b → length (short_uint (fork_number (length l)) ++ (l ++ r)) < 2 ^ 24
+fork : (low w : ℕ) (l r front behind : List ℕ) (b : Bool) → bit_of low w ≡ b
+    → length (short_uint (fork_number (length l)) ++ (l ++ r)) < 2 ^ 24
     → Leads (front ++ ((short_uint (fork_number (length l)) ++ (l ++ r)) ++ behind)) low w (length front) (child_at b (Some (length l)) (Some (length r))) (cond b (Some r) (Some l))
 unfolding fork_len
 fork low w l r front behind b bit small =
@@ -220,7 +226,8 @@ FindsAt bytes base answer (Some place) (Some content) = (answer ≡ Ok (Some (ba
 FindsAt bytes base answer None (Some content) = ⊥
 FindsAt bytes base answer (Some place) None = ⊥
 
-pub moved : (bytes : List ℕ) (base off : ℕ) (answer now : Answer) (place : Option ℕ) (slot : Option (List ℕ)) → now ≡ answer → FindsAt bytes (base + off) answer place slot
+pub moved : (bytes : List ℕ) (base off : ℕ) (answer now : Answer) (place : Option ℕ) (slot : Option (List ℕ)) → now ≡ answer
+    → FindsAt bytes (base + off) answer place slot
     → FindsAt bytes base now (option_map (λ p. off + p) place) slot
 moved bytes base off answer now None None is h = is ∙ h
 moved bytes base off answer now None (Some content) is h = absurd h
@@ -230,11 +237,13 @@ moved bytes base off answer now (Some place) (Some content) is h =
     (is ∙ subst (λ (n : ℕ). answer ≡ Ok (Some n)) at h.0, subst (λ (n : ℕ). StandsAt bytes n content) at h.1)
 
 -- in bytes that are spelled in another way, from a place that is
-pub carried : (xs ys : List ℕ) (low : ℕ) (ws : List ℕ) (p q : ℕ) (place : Option ℕ) (slot : Option (List ℕ)) → xs ≡ ys → p ≡ q → FindsAt xs p (path xs low ws p) place slot → FindsAt ys q (path ys low ws q) place slot
+pub carried : (xs ys : List ℕ) (low : ℕ) (ws : List ℕ) (p q : ℕ) (place : Option ℕ) (slot : Option (List ℕ)) → xs ≡ ys → p ≡ q
+    → FindsAt xs p (path xs low ws p) place slot → FindsAt ys q (path ys low ws q) place slot
 carried xs ys low ws p q place slot same at h =
     subst (λ (zs : List ℕ). FindsAt zs q (path zs low ws q) place slot) same (subst (λ (k : ℕ). FindsAt xs k (path xs low ws k) place slot) at h)
 
-nothing_found : (bytes : List ℕ) (base : ℕ) (answer : Answer) (place : Option ℕ) (slot : Option (List ℕ)) → answer ≡ Ok None → place ≡ None → slot ≡ None → FindsAt bytes base answer place slot
+nothing_found : (bytes : List ℕ) (base : ℕ) (answer : Answer) (place : Option ℕ) (slot : Option (List ℕ)) → answer ≡ Ok None → place ≡ None
+    → slot ≡ None → FindsAt bytes base answer place slot
 nothing_found bytes base answer place slot is none empty = rw (none, empty) is
 
 -- no place in a tree that is none
@@ -264,7 +273,8 @@ abbrev IsFoundIn : ℕ → List ℕ → Slots → Type 0
 IsFoundIn low ws slots = (t front behind : List ℕ) → tree ws slots ≡ Some t → length t < 2 ^ 24
     → FindsAt (front ++ (t ++ behind)) (length front) (path (front ++ (t ++ behind)) low ws (length front)) (place_in ws low (lens slots)) (slot_by low ws slots)
 
-from_child : (bytes : List ℕ) (low w : ℕ) (ws : List ℕ) (at off : ℕ) (child : Slots) (t : Option (List ℕ)) → IsFoundIn low ws child → tree ws child ≡ t → Leads bytes low w at off t
+from_child : (bytes : List ℕ) (low w : ℕ) (ws : List ℕ) (at off : ℕ) (child : Slots) (t : Option (List ℕ)) → IsFoundIn low ws child
+    → tree ws child ≡ t → Leads bytes low w at off t
     → FindsAt bytes at (path bytes low (w ∷ ws) at) (option_map (λ p. off + p) (place_in ws low (lens child))) (slot_by low ws child)
 from_child bytes low w ws at off child None below e step =
     let no_len : tree_len ws (lens child) ≡ None = sym (tree_len_is ws child) ∙ ap (option_map length) e in
@@ -300,7 +310,8 @@ place_step low w ws slots =
     ∙ ap (λ (x : Option ℕ). option_map (λ p. child_at b (option_map length (tree ws (take w slots))) x + p) (place_in ws low (cond b (drop w (lens slots)) (take w (lens slots))))) h
     ∙ ap (λ (x : Lens). option_map (λ p. child_at b (option_map length (tree ws (take w slots))) (option_map length (tree ws (drop w slots))) + p) (place_in ws low x)) child
 
-leaf_found : (bytes front behind : List ℕ) (s t : List ℕ) → s ≡ t → bytes ≡ front ++ (t ++ behind) → (◌≡◌ {A = Answer} (Ok (Some (length front))) (Ok (Some (length front + 0)))) × StandsAt bytes (length front + 0) s
+leaf_found : (bytes front behind : List ℕ) (s t : List ℕ) → s ≡ t → bytes ≡ front ++ (t ++ behind)
+    → (◌≡◌ {A = Answer} (Ok (Some (length front))) (Ok (Some (length front + 0)))) × StandsAt bytes (length front + 0) s
 leaf_found bytes front behind s t same is =
     let at : length front ≡ length front + 0 = omega arith in
     (ap (λ (n : ℕ). Ok (Some n)) at, record { front = front; behind = behind; place_is = sym at; bytes_are = is ∙ ap (λ (u : List ℕ). front ++ (u ++ behind)) (sym same) })
@@ -332,7 +343,8 @@ number_below low (w ∷ ws) n h = with_bit (bit_of low w) w (number_of low ws) n
   with_bit true w m n p q = omega arith
   with_bit false w m n p q = omega arith
 
-half_is : (b : Bool) (w m : ℕ) (slots : Slots) → m < w → get_or (cond b (drop w slots) (take w slots)) m None ≡ get_or slots (cond b w 0 + m) None
+half_is : (b : Bool) (w m : ℕ) (slots : Slots) → m < w
+    → get_or (cond b (drop w slots) (take w slots)) m None ≡ get_or slots (cond b w 0 + m) None
 half_is true w m slots h = get_or-drop w slots m None
 half_is false w m slots h = let e : 0 + m ≡ m = omega arith in rw e (get_or-take w slots m None h)
 

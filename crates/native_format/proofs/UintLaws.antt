@@ -14,7 +14,8 @@ IsBytes bytes = (i : ℕ) → get_or bytes i 0 < 256
 
 -- ---- what is spelled is read
 
-shifted_front : (n : ℕ) (s x : List ℕ) (v mark : ℕ) → 2 ^ n * v + mark ≡ little_number n s → (2 ^ n * v + mark) / 2 ^ n ≡ v → length s ≡ n → shifted n (s ++ x) ≡ Some (v, length s)
+shifted_front : (n : ℕ) (s x : List ℕ) (v mark : ℕ) → 2 ^ n * v + mark ≡ little_number n s → (2 ^ n * v + mark) / 2 ^ n ≡ v → length s ≡ n
+    → shifted n (s ++ x) ≡ Some (v, length s)
 shifted_front n s x v mark is quotient len =
     let long_enough : leb n (length (s ++ x)) ≡ true = le-leb _ _ (omega (arith, length-append s x)) in
     let word : little_number n (s ++ x) ≡ 2 ^ n * v + mark = little_from-append n s x (omega arith) ∙ sym is in
@@ -24,7 +25,8 @@ first_of : (s x : List ℕ) → 1 ≤ length s → get_or (s ++ x) 0 0 ≡ get_o
 first_of s x h = get_or_append_left s x 0 0 (omega arith)
 
 -- the low bits of a spelling's first byte are its form's mark
-mark_of : (n : ℕ) (v mark : ℕ) (s : List ℕ) → IsShifted (suc n) mark v s → get_or s 0 0 + 256 * little_number n (drop 1 s) ≡ 2 ^ suc n * v + mark
+mark_of : (n : ℕ) (v mark : ℕ) (s : List ℕ) → IsShifted (suc n) mark v s
+    → get_or s 0 0 + 256 * little_number n (drop 1 s) ≡ 2 ^ suc n * v + mark
 mark_of n v mark [] h = absurd (omega (arith, h.0))
 mark_of n v mark (a ∷ s) h = ap (λ (t : ℕ). a + 256 * t) (sym (little_from-cons 0 n a s)) ∙ h.1
 
@@ -77,7 +79,8 @@ pub record Leads (bytes : List ℕ) (v n : ℕ) : Type 0 where
   pub short : n ≤ 5
   pub spelled : IsUint v (take n bytes)
 
-shifted_is : (n mark : ℕ) (bytes : List ℕ) (v k : ℕ) → little_number n bytes ≡ 2 ^ n * (little_number n bytes / 2 ^ n) + mark → shifted n bytes ≡ Some (v, k) → (n ≡ k) × (n ≤ length bytes) × IsShifted n mark v (take n bytes)
+shifted_is : (n mark : ℕ) (bytes : List ℕ) (v k : ℕ) → little_number n bytes ≡ 2 ^ n * (little_number n bytes / 2 ^ n) + mark
+    → shifted n bytes ≡ Some (v, k) → (n ≡ k) × (n ≤ length bytes) × IsShifted n mark v (take n bytes)
 shifted_is n mark bytes v k whole e =
     let g = cond_some (leb n (length bytes)) (little_number n bytes / 2 ^ n, n) (v, k) e in
     let le : n ≤ length bytes = leb-true _ _ g.0 in
@@ -88,7 +91,8 @@ shifted_is n mark bytes v k whole e =
 abbrev is_low : List ℕ → ℕ → ℕ → Bool
 is_low bytes n mark = eqb (get_or bytes 0 0 % n) mark
 
-leads : (n mark : ℕ) (bytes : List ℕ) (v k : ℕ) → 0 < n → n ≤ 5 → (IsShifted n mark v (take n bytes) → IsUint v (take n bytes)) → (n ≡ k) × (n ≤ length bytes) × IsShifted n mark v (take n bytes) → Leads bytes v k
+leads : (n mark : ℕ) (bytes : List ℕ) (v k : ℕ) → 0 < n → n ≤ 5 → (IsShifted n mark v (take n bytes) → IsUint v (take n bytes))
+    → (n ≡ k) × (n ≤ length bytes) × IsShifted n mark v (take n bytes) → Leads bytes v k
 leads n mark bytes v k some short form p =
     record { within = omega (arith, p.0, p.1); some = omega (arith, p.0); short = omega (arith, p.0); spelled = rw (← p.0) (form p.2) }
 
@@ -134,7 +138,8 @@ leading_is bytes v n e =
 abbrev moved : ℕ → Option (ℕ × ℕ) → Option (ℕ × ℕ)
 moved at o = option_map (λ (found : ℕ × ℕ). (found.0, at + found.1)) o
 
-pub uint_at_is : (bytes : List ℕ) (at v next : ℕ) → uint_at bytes at ≡ Some (v, next) → (n : ℕ) × (at + n ≡ next) × Leads (drop at bytes) v n
+pub uint_at_is : (bytes : List ℕ) (at v next : ℕ) → uint_at bytes at ≡ Some (v, next)
+    → (n : ℕ) × (at + n ≡ next) × Leads (drop at bytes) v n
 unfolding uint_at
 uint_at_is bytes at v next e = go (leading_uint (drop at bytes)) refl e where
   go : (o : Option (ℕ × ℕ)) → leading_uint (drop at bytes) ≡ o → moved at o ≡ Some (v, next) → (n : ℕ) × (at + n ≡ next) × Leads (drop at bytes) v n
@@ -262,7 +267,8 @@ unfolding uint_at leading_uint
 uint_at_past bytes at h = rw (drop_all at bytes h) refl
 
 -- a number in the bytes from a place on
-pub word_from : (n at w : ℕ) (bytes : List ℕ) → n ≤ 4 → IsBytes bytes → w ≡ little_number n (take (length bytes - at) (drop at bytes)) → w < 2 ^ 32
+pub word_from : (n at w : ℕ) (bytes : List ℕ) → n ≤ 4 → IsBytes bytes → w ≡ little_number n (take (length bytes - at) (drop at bytes))
+    → w < 2 ^ 32
 word_from n at w bytes h fits is = rw (is, take_rest) (word_fits n (drop at bytes) h (λ i. rw get_or-drop (fits (at + i))))
 
 pub uint_small : (bytes : List ℕ) (at v next : ℕ) → IsBytes bytes → Some (v, next) ≡ uint_at bytes at → v < 2 ^ 32
@@ -283,13 +289,15 @@ uint_small bytes at v next fits e =
       small s b (inr (inr (inr (inr h)))) = omega (arith, h.2, little_from-lt 0 4 (drop 1 s) (λ i. rw get_or-drop (b (1 + i))))
 
 -- a part between two others, by its place and its length
-part_between : (before part rest : List ℕ) → take (length before + length part - length before) (drop (length before) (before ++ part ++ rest)) ≡ part
+part_between : (before part rest : List ℕ)
+    → take (length before + length part - length before) (drop (length before) (before ++ part ++ rest)) ≡ part
 part_between before part rest =
     let size : length before + length part - length before ≡ length part = omega arith in
     rw (append_assoc, drop-append_seam, size, take-append_seam) refl
 
 -- the shortest spelling is read again behind whatever bytes, and whatever follows
-pub short_again : (v : ℕ) (before rest : List ℕ) → v < 2 ^ 32 → IsUintBetween (before ++ short_uint v ++ rest) (length before) v (length before + length (short_uint v))
+pub short_again : (v : ℕ) (before rest : List ℕ) → v < 2 ^ 32
+    → IsUintBetween (before ++ short_uint v ++ rest) (length before) v (length before + length (short_uint v))
 short_again v before rest h = record {
   ordered = omega arith;
   within = rw (length-append, length-append) (omega arith);

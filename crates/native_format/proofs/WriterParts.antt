@@ -27,7 +27,8 @@ wide_split ws n h wide = subst (λ (l : List ℕ). AreSlots l n) (split_weights 
 pub half_within : (ws : List ℕ) (n : ℕ) → 1 ≤ length ws → AreSlots ws n → n ≡ 2 * get_or ws 0 0
 half_within ws n h wide = (wide_split ws n h wide).0
 
-pub wide_low : (ws : List ℕ) (slots : Lent) → 1 ≤ length ws → AreSlots ws (length slots) → AreSlots (below ws) (length (take (get_or ws 0 0) slots))
+pub wide_low : (ws : List ℕ) (slots : Lent) → 1 ≤ length ws → AreSlots ws (length slots)
+    → AreSlots (below ws) (length (take (get_or ws 0 0) slots))
 wide_low ws slots h wide =
     let p = wide_split ws (length slots) h wide in
     rw (length-take-le (get_or ws 0 0) slots (omega (arith, p.0))) p.1
@@ -36,13 +37,15 @@ wide_low ws slots h wide =
 abbrev pub upper : ℕ → Lent → Lent
 upper w slots = take (length slots - w) (drop w slots)
 
-pub wide_high : (ws : List ℕ) (slots : Lent) → 1 ≤ length ws → AreSlots ws (length slots) → AreSlots (below ws) (length (upper (get_or ws 0 0) slots))
+pub wide_high : (ws : List ℕ) (slots : Lent) → 1 ≤ length ws → AreSlots ws (length slots)
+    → AreSlots (below ws) (length (upper (get_or ws 0 0) slots))
 wide_high ws slots h wide =
     let p = wide_split ws (length slots) h wide in
     let half : length (upper (get_or ws 0 0) slots) ≡ get_or ws 0 0 = ap length (take_rest slots (get_or ws 0 0)) ∙ omega (arith, p.0, length-drop (get_or ws 0 0) slots) in
     rw half p.1
 
-pub halves : (ws : List ℕ) (slots : Lent) → 1 ≤ length ws → tree ws (contents slots) ≡ node (tree (below ws) (contents (take (get_or ws 0 0) slots))) (tree (below ws) (contents (upper (get_or ws 0 0) slots)))
+pub halves : (ws : List ℕ) (slots : Lent) → 1 ≤ length ws
+    → tree ws (contents slots) ≡ node (tree (below ws) (contents (take (get_or ws 0 0) slots))) (tree (below ws) (contents (upper (get_or ws 0 0) slots)))
 unfolding tree
 halves ws slots h =
     let w = get_or ws 0 0 in
@@ -60,10 +63,12 @@ node_small (Some l) (Some h) s =
     let sizes = length-append (short_uint (fork_number (length l))) (l ++ h) in
     (omega (arith, s, sizes, length-append l h), omega (arith, s, sizes, length-append l h))
 
-pub small_low : (ws : List ℕ) (slots : Lent) → 1 ≤ length ws → IsSmall (tree ws (contents slots)) → IsSmall (tree (below ws) (contents (take (get_or ws 0 0) slots)))
+pub small_low : (ws : List ℕ) (slots : Lent) → 1 ≤ length ws → IsSmall (tree ws (contents slots))
+    → IsSmall (tree (below ws) (contents (take (get_or ws 0 0) slots)))
 small_low ws slots h s = (node_small _ (tree (below ws) (contents (upper (get_or ws 0 0) slots))) (subst IsSmall (halves ws slots h) s)).0
 
-pub small_high : (ws : List ℕ) (slots : Lent) → 1 ≤ length ws → IsSmall (tree ws (contents slots)) → IsSmall (tree (below ws) (contents (upper (get_or ws 0 0) slots)))
+pub small_high : (ws : List ℕ) (slots : Lent) → 1 ≤ length ws → IsSmall (tree ws (contents slots))
+    → IsSmall (tree (below ws) (contents (upper (get_or ws 0 0) slots)))
 small_high ws slots h s = (node_small (tree (below ws) (contents (take (get_or ws 0 0) slots))) _ (subst IsSmall (halves ws slots h) s)).1
 
 pub node_len_is : (l h : Option (List ℕ)) → option_map length (node l h) ≡ node_len (option_map length l) (option_map length h)
@@ -79,19 +84,22 @@ short_from_small (Some t) s = s
 
 -- the length of a tree, by those of its halves
 pub len_is : (ws : List ℕ) (slots : Lent) (low high : Option ℕ) → 1 ≤ length ws
-    → low ≡ option_map length (tree (below ws) (contents (take (get_or ws 0 0) slots))) → high ≡ option_map length (tree (below ws) (contents (upper (get_or ws 0 0) slots)))
+    → low ≡ option_map length (tree (below ws) (contents (take (get_or ws 0 0) slots)))
+    → high ≡ option_map length (tree (below ws) (contents (upper (get_or ws 0 0) slots)))
     → node_len low high ≡ option_map length (tree ws (contents slots))
 len_is ws slots low high h p q =
     rw (p, q) (sym (node_len_is (tree (below ws) (contents (take (get_or ws 0 0) slots))) (tree (below ws) (contents (upper (get_or ws 0 0) slots))))) ∙ ap (option_map length) (sym (halves ws slots h))
 
 pub len_small : (ws : List ℕ) (slots : Lent) (low high : Option ℕ) → 1 ≤ length ws
-    → low ≡ option_map length (tree (below ws) (contents (take (get_or ws 0 0) slots))) → high ≡ option_map length (tree (below ws) (contents (upper (get_or ws 0 0) slots)))
+    → low ≡ option_map length (tree (below ws) (contents (take (get_or ws 0 0) slots)))
+    → high ≡ option_map length (tree (below ws) (contents (upper (get_or ws 0 0) slots)))
     → IsSmall (tree ws (contents slots)) → IsShort (node_len low high)
 len_small ws slots low high h p q s = subst IsShort (sym (len_is ws slots low high h p q)) (short_from_small (tree ws (contents slots)) s)
 
 -- ---- a single slot
 
-pub leaf : (ws : List ℕ) (slots : Lent) → length ws < 1 → AreSlots ws (length slots) → tree ws (contents slots) ≡ option_copied (get_or slots 0 None)
+pub leaf : (ws : List ℕ) (slots : Lent) → length ws < 1 → AreSlots ws (length slots)
+    → tree ws (contents slots) ≡ option_copied (get_or slots 0 None)
 unfolding tree
 leaf [] [] h wide = absurd (omega (arith, wide))
 leaf [] (s ∷ slots) h wide = refl
@@ -99,15 +107,18 @@ leaf (w ∷ ws) slots h wide = absurd (omega arith)
 
 -- ---- what is put
 
-pub node_put : (l h : Option (List ℕ)) → unwrap_or (node l h) [] ≡ head_of_node (option_map length l) (option_map length h) ++ (unwrap_or l [] ++ unwrap_or h [])
+pub node_put : (l h : Option (List ℕ))
+    → unwrap_or (node l h) [] ≡ head_of_node (option_map length l) (option_map length h) ++ (unwrap_or l [] ++ unwrap_or h [])
 node_put None None = refl
 node_put (Some l) None = ap (λ (t : List ℕ). short_uint 1 ++ t) (sym (append-nil l))
 node_put None (Some h) = refl
 node_put (Some l) (Some h) = refl
 
 pub tree_put : (ws : List ℕ) (slots : Lent) (low high : Option ℕ) (old head first new : List ℕ) → 1 ≤ length ws
-    → low ≡ option_map length (tree (below ws) (contents (take (get_or ws 0 0) slots))) → high ≡ option_map length (tree (below ws) (contents (upper (get_or ws 0 0) slots)))
-    → head ≡ old ++ head_of_node low high → first ≡ head ++ unwrap_or (tree (below ws) (contents (take (get_or ws 0 0) slots))) [] → new ≡ first ++ unwrap_or (tree (below ws) (contents (upper (get_or ws 0 0) slots))) []
+    → low ≡ option_map length (tree (below ws) (contents (take (get_or ws 0 0) slots)))
+    → high ≡ option_map length (tree (below ws) (contents (upper (get_or ws 0 0) slots)))
+    → head ≡ old ++ head_of_node low high → first ≡ head ++ unwrap_or (tree (below ws) (contents (take (get_or ws 0 0) slots))) []
+    → new ≡ first ++ unwrap_or (tree (below ws) (contents (upper (get_or ws 0 0) slots))) []
     → new ≡ old ++ unwrap_or (tree ws (contents slots)) []
 tree_put ws slots low high old head first new h p q head-is first-is new-is =
     let l = tree (below ws) (contents (take (get_or ws 0 0) slots)) in

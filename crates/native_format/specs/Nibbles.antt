@@ -28,7 +28,7 @@ abbrev pub numbers_between : SlotRef → SlotRef → List ℕ
 numbers_between last next =
     if next.section == last.section then (next.slot - last.slot) ∷ [] else 0 ∷ (next.section - last.section) ∷ next.slot ∷ []
 
--- the numbers behind a slot; the list ends with 0 for the next slot and 0 for the next section
+-- the numbers after a slot; the list ends with 0 for the next slot and 0 for the next section
 unfoldable pub numbers_after_slot : SlotRef → List SlotRef → List ℕ
 numbers_after_slot last [] = 0 ∷ 0 ∷ []
 numbers_after_slot last (next ∷ others) = numbers_between last next ++ numbers_after_slot next others

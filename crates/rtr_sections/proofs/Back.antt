@@ -29,12 +29,14 @@ use Rattle.rtr_sections.proofs.ImportsBack.{cells_in_order, cells_placed, forms_
 use Rattle.rtr_sections.proofs.SlotsBack.{slots_back, slots_good}
 
 -- a check of images of this compiler that is passed
-passes : (n : ℕ) (native own : Bool) (o : Option ℕ) (others : Option Fault) → o ≡ None → others ≡ None → fault_or n (cond native (cond own o None) None) others ≡ None
+passes : (n : ℕ) (native own : Bool) (o : Option ℕ) (others : Option Fault) → o ≡ None → others ≡ None
+    → fault_or n (cond native (cond own o None) None) others ≡ None
 passes n true true o others e h = rw e h
 passes n true false o others e h = h
 passes n false own o others e h = h
 
-pub well_formed : WrittenIsRead → (file : List ℕ) (plan : Image) (at rows : ℕ) → IsPlan plan at → FitsTypes plan → Carries file plan at rows → first_fault (rtr_checks rows) file ≡ None
+pub well_formed : WrittenIsRead → (file : List ℕ) (plan : Image) (at rows : ℕ) → IsPlan plan at → FitsTypes plan → Carries file plan at rows
+    → first_fault (rtr_checks rows) file ≡ None
 well_formed laws file plan at rows p f c =
     let native : is_some (native_of file) ≡ true = ap (λ (t : Option Span). is_some t) c.native in
     let n = is_some (native_of file) in
@@ -58,7 +60,8 @@ own_image : (own : Bool) (a b c : Image) → own ≡ true → a ≡ c → cond o
 own_image true a b c h e = e
 own_image false a b c h e = absurd (let x : ⊥ = cc in x)
 
-pub image_back : WrittenIsRead → (file : List ℕ) (plan : Image) (at rows : ℕ) → IsPlan plan at → FitsTypes plan → Carries file plan at rows → image_of file ≡ back_image plan at (native_at file)
+pub image_back : WrittenIsRead → (file : List ℕ) (plan : Image) (at rows : ℕ) → IsPlan plan at → FitsTypes plan → Carries file plan at rows
+    → image_of file ≡ back_image plan at (native_at file)
 unfolding image_of own_image_of back_image
 image_back laws file plan at rows p f c =
     let own = own_back file plan at rows p f c in

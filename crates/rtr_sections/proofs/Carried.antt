@@ -11,11 +11,12 @@ use Rattle.pe_image.specs.Written.{HeaderField}
 use Rattle.pe_image.proofs.ReadBack.{same_field}
 use Rattle.rtr_sections.specs.declared.image.Image.{Image}
 use Rattle.rtr_sections.specs.Parts.{header_span, highest_row, part_bytes, thunks_of}
-use Rattle.rtr_sections.specs.Written.{Carries, IsPlaced, IsWrittenBehind}
+use Rattle.rtr_sections.specs.Written.{Carries, IsPlaced, IsWrittenAfter}
 use Rattle.rtr_sections.proofs.Stands.{Stands, stands_front}
 
 -- ManagedNativeHeader of a CLI header that was copied from a part
-native_copied : (file dat : List ℕ) (cli : ℕ) (span : Span) → cli + 72 ≤ length dat → take 72 (drop (cli_at file) file) ≡ take 72 (drop cli dat)
+native_copied : (file dat : List ℕ) (cli : ℕ) (span : Span) → cli + 72 ≤ length dat
+    → take 72 (drop (cli_at file) file) ≡ take 72 (drop cli dat)
     → u32_of dat (cli + 64) ≡ span.start → u32_of dat (cli + 68) ≡ span.len → (span.len ≡ 0 → ⊥) → native_of file ≡ Some span
 native_copied file dat cli span inside same start len some =
     let rva : u32_of file (cli_at file + 64) ≡ span.start = same_field file dat (cli_at file) cli 64 inside (omega arith) same ∙ start in
@@ -24,8 +25,10 @@ native_copied file dat cli span inside same start len some =
     ∙ ap (λ (b : Bool). if b then None else Some span) (and_right (span.start == 0) (span.len == 0) (ne_eqb span.len 0 some))
 
 -- what the writer of PE files promises makes a file carry the part
-pub carried : (sections : List PeSection) (bytes dat cod : List ℕ) (cli : ℕ) (plan : Image) (file : List ℕ) (rows : ℕ) → IsWrittenBehind sections bytes dat cod cli plan file
-    → All (λ f. IsSome (place_of file f.begin f.length)) plan.functions → IsPlaced file (thunks_of plan.header.sections) → highest_row plan.entries ≤ rows
+pub carried : (sections : List PeSection) (bytes dat cod : List ℕ) (cli : ℕ) (plan : Image) (file : List ℕ) (rows : ℕ)
+    → IsWrittenAfter sections bytes dat cod cli plan file
+    → All (λ f. IsSome (place_of file f.begin f.length)) plan.functions → IsPlaced file (thunks_of plan.header.sections)
+    → highest_row plan.entries ≤ rows
     → Carries file plan (dat_rva sections) rows
 carried sections bytes dat cod cli plan file rows b code thunks enough =
     let at = dat_rva sections in

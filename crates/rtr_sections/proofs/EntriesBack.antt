@@ -54,7 +54,8 @@ is_array laws file part entries len same rows small readable =
     held laws (bytes_in file part) entries bytes_are rows small in
     record { some = λ none. omega (arith, len, none, bytes_some laws entries); has = has_entries laws file part entries rows readable array }
 
-array_is : (file : List ℕ) (part : Span) (entries : List EntryPoint) → (a : IsArray file part entries) → array_in file part ≡ Some a.has.array
+array_is : (file : List ℕ) (part : Span) (entries : List EntryPoint) → (a : IsArray file part entries)
+    → array_in file part ≡ Some a.has.array
 array_is file part entries a = rw (ne_eqb _ _ a.some) a.has.is_there
 
 -- ---- what is read of it
@@ -137,7 +138,8 @@ linked file plan at rows p f c =
     (all_pass (λ r. Names plan.imports r.section r.slot) (names_slot file (part_of file 101)) _ (recursion_from_All _ _ e.slots)
     (λ r names. named file plan at r f imports names)))
 
-pub entries_back : WrittenIsRead → (file : List ℕ) (plan : Image) (at rows : ℕ) → IsPlan plan at → FitsTypes plan → Carries file plan at rows
+pub entries_back : WrittenIsRead → (file : List ℕ) (plan : Image) (at rows : ℕ) → IsPlan plan at → FitsTypes plan
+    → Carries file plan at rows
     → entries_in file (part_of file 103) ≡ plan.entries
 entries_back laws file plan at rows p f c = all_entries file (part_of file 103) plan.entries p.planned.rows (arrayed laws file plan at rows p f c)
 
@@ -149,7 +151,8 @@ pub paths_good : WrittenIsRead → (file : List ℕ) (plan : Image) (at rows : �
     → first_cut file (part_of file 103) ≡ None
 paths_good laws file plan at rows p f c = none_cut file (part_of file 103) plan.entries (arrayed laws file plan at rows p f c)
 
-pub entries_linked : WrittenIsRead → (file : List ℕ) (plan : Image) (at rows : ℕ) → IsPlan plan at → FitsTypes plan → Carries file plan at rows
+pub entries_linked : WrittenIsRead → (file : List ℕ) (plan : Image) (at rows : ℕ) → IsPlan plan at → FitsTypes plan
+    → Carries file plan at rows
     → first_unlinked file (part_of file 103) (part_of file 101) (function_count (part_of file 102)) ≡ None
 entries_linked laws file plan at rows p f c =
     all_linked file (part_of file 103) (part_of file 101) (function_count (part_of file 102)) plan.entries (linked file plan at rows p f c)

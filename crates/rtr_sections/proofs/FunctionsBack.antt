@@ -76,7 +76,8 @@ same_function file place f h =
     ∙ ap (λ (t : Option ℕ). function f.begin (option_map_or (u32_of file) t 0)) h.unwind
     ∙ ap (λ (t : ℕ). function f.begin t) h.len
 
-functions_found : (fs : List Function) (file : List ℕ) (place : ℕ) → EntriesStand file place fs → records (function_at file) place 8 (length fs) ≡ fs
+functions_found : (fs : List Function) (file : List ℕ) (place : ℕ) → EntriesStand file place fs
+    → records (function_at file) place 8 (length fs) ≡ fs
 functions_found [] file place h = refl
 functions_found (f ∷ fs) file place (h, hs) =
     ap (λ (t : Function). t ∷ records (function_at file) (place + 8) 8 (length fs)) (same_function file place f h)
@@ -96,7 +97,8 @@ entry_holds file place low f h above b l placed =
     (ap (λ (t : Function). is_function file low t) (same_function file place f h) ∙ good)
 
 -- and the entry after it begins behind its end
-end_after : (file : List ℕ) (start place : ℕ) (f : Function) → EntryStands file place f → start ≤ place → end_before file start (place + 8) ≡ end_of f
+end_after : (file : List ℕ) (start place : ℕ) (f : Function) → EntryStands file place f → start ≤ place
+    → end_before file start (place + 8) ≡ end_of f
 unfolding end_before
 end_after file start place f h behind =
     let later : nat_lt start (place + 8) ≡ true = lt-ltb start (place + 8) (omega arith) in

@@ -328,7 +328,8 @@ part_placed file rva size piece stands is some =
     let found : IsFound file rva piece = found_whole file rva piece stands (omega arith) in
     ap (λ (t : ℕ). is_some (place_of file rva t)) is ∙ ap (λ (t : Option ℕ). is_some t) found.found
 
-sections_placed : (file : List ℕ) (plan : Image) (at rows : ℕ) → Carries file plan at rows → AllOf (IsPlaced file) (written_sections plan at)
+sections_placed : (file : List ℕ) (plan : Image) (at rows : ℕ) → Carries file plan at rows
+    → AllOf (IsPlaced file) (written_sections plan at)
 unfolding written_sections
 sections_placed file plan at rows c =
     let s = parts_of plan in (
@@ -393,7 +394,8 @@ unfolding written_sections
 one_identified file plan at stands =
     or_left (is_identifier file (section 100 (at + (parts_of plan).identifier) 14)) false (identified file (at + (parts_of plan).identifier) stands)
 
-pub own_back : (file : List ℕ) (plan : Image) (at rows : ℕ) → IsPlan plan at → FitsTypes plan → Carries file plan at rows → is_own file ≡ true
+pub own_back : (file : List ℕ) (plan : Image) (at rows : ℕ) → IsPlan plan at → FitsTypes plan → Carries file plan at rows
+    → is_own file ≡ true
 unfolding is_own
 own_back file plan at rows p f c =
     let h = plan_header file plan at rows p f c in

@@ -26,11 +26,13 @@ use Rattle.rtr_sections.proofs.Stands.{IsPart, Stands, are_parts, begins_with, e
 abbrev pub FitsRecord : ImportSection → Type 0
 FitsRecord i = (i.rva < 2 ^ 32) × (i.size < 2 ^ 32) × (i.flags < 2 ^ 16) × (i.signatures < 2 ^ 32) × (i.auxiliary < 2 ^ 32)
 
-same_import : (rva size flags kind entry_size signatures auxiliary : ℕ) (i : ImportSection) → rva ≡ i.rva → size ≡ i.size → flags ≡ i.flags → kind ≡ i.kind → entry_size ≡ i.entry_size → signatures ≡ i.signatures → auxiliary ≡ i.auxiliary
+same_import : (rva size flags kind entry_size signatures auxiliary : ℕ) (i : ImportSection) → rva ≡ i.rva → size ≡ i.size → flags ≡ i.flags
+    → kind ≡ i.kind → entry_size ≡ i.entry_size → signatures ≡ i.signatures → auxiliary ≡ i.auxiliary
     → ◌≡◌ {A = ImportSection} (record { rva = rva; size = size; flags = flags; kind = kind; entry_size = entry_size; signatures = signatures; auxiliary = auxiliary }) i
 same_import rva size flags kind entry_size signatures auxiliary i a b c d e f g = rw (a, b, c, d, e, f, g) refl
 
-import_read : (file : List ℕ) (i : ImportSection) (place : ℕ) (behind : List ℕ) → FitsRecord i → drop place file ≡ import_bytes i ++ behind → import_at file place ≡ i
+import_read : (file : List ℕ) (i : ImportSection) (place : ℕ) (behind : List ℕ) → FitsRecord i → drop place file ≡ import_bytes i ++ behind
+    → import_at file place ≡ i
 import_read file i place behind (rva, size, flags, signatures, auxiliary) e =
     let b0 = little_bytes 4 i.rva in
     let b1 = b0 ++ little_bytes 4 i.size in
@@ -85,7 +87,8 @@ length-spelled : (is : List ImportSection) → length (flat_map import_bytes is)
 length-spelled [] = refl
 length-spelled (i ∷ is) = omega (arith, length-append (import_bytes i) (flat_map import_bytes is), length-spelled is)
 
-placed_fit : (cells arrays : ℕ) (is : List ImportSection) → HaveForm is → HaveTypes is → cells + sizes is < 2 ^ 32 → arrays + 4 * counts is < 2 ^ 32 → AllByRecursion FitsRecord (placed_imports cells arrays is)
+placed_fit : (cells arrays : ℕ) (is : List ImportSection) → HaveForm is → HaveTypes is → cells + sizes is < 2 ^ 32
+    → arrays + 4 * counts is < 2 ^ 32 → AllByRecursion FitsRecord (placed_imports cells arrays is)
 placed_fit cells arrays [] form fit h k = tt
 placed_fit cells arrays (i ∷ is) (form, forms) (fit, fits) h k = (
   (omega arith, fit.0, fit.1, omega arith, omega (arith, form.auxiliary)),
@@ -135,7 +138,8 @@ unfolding written_imports
 length-written plan at = length-placed at (at + (parts_of plan).arrays) plan.imports
 
 -- the records of the section are those that were written
-count-back : (file : List ℕ) (is : List ImportSection) → IsPart file 101 (flat_map import_bytes is) → import_count (part_of file 101) ≡ length is
+count-back : (file : List ℕ) (is : List ImportSection) → IsPart file 101 (flat_map import_bytes is)
+    → import_count (part_of file 101) ≡ length is
 count-back file is h =
     let n : (part_of file 101).len ≡ 20 * length is = h.len ∙ length-spelled is in
     omega (arith, n)
@@ -147,7 +151,8 @@ records-back file is h fits =
     let start = (part_of file 101).start in
     records_back (import_at file) import_bytes 20 file FitsRecord is start (drop (length piece) (drop start file)) (λ x. refl) (import_read file) fits (begins_with file start piece h.bytes)
 
-pub imports_back : (file : List ℕ) (plan : Image) (at rows : ℕ) → IsPlan plan at → FitsTypes plan → Carries file plan at rows → imports_in file (part_of file 101) ≡ written_imports plan at
+pub imports_back : (file : List ℕ) (plan : Image) (at rows : ℕ) → IsPlan plan at → FitsTypes plan → Carries file plan at rows
+    → imports_in file (part_of file 101) ≡ written_imports plan at
 unfolding imports_in
 imports_back file plan at rows p f c =
     let part = imports_part file plan at rows p f c in
@@ -155,7 +160,8 @@ imports_back file plan at rows p f c =
     ap (λ (n : ℕ). records (import_at file) (part_of file 101).start 20 n) (count-back file is part) ∙ records-back file is part (fit_all plan at (room plan at p f))
 
 -- a test of each record, and none fails it
-none_of : (file : List ℕ) (plan : Image) (at rows : ℕ) (holds : ImportSection → Bool) (test : ℕ → Bool) → IsPlan plan at → FitsTypes plan → Carries file plan at rows
+none_of : (file : List ℕ) (plan : Image) (at rows : ℕ) (holds : ImportSection → Bool) (test : ℕ → Bool) → IsPlan plan at → FitsTypes plan
+    → Carries file plan at rows
     → ((place : ℕ) → test place ≡ holds (import_at file place)) → AllByRecursion (λ i. holds i ≡ true) (written_imports plan at)
     → first_record test (part_of file 101).start 20 (import_count (part_of file 101)) ≡ None
 none_of file plan at rows holds test p f c same all =
@@ -166,7 +172,8 @@ none_of file plan at rows holds test p f c same all =
 
 -- ---- cells and arrays are in sections of the file
 
-any_found : (file whole : List ℕ) (at off len : ℕ) → Stands file at whole → 0 < length whole → off + len ≤ length whole → is_some (place_of file (at + off) len) ≡ true
+any_found : (file whole : List ℕ) (at off len : ℕ) → Stands file at whole → 0 < length whole → off + len ≤ length whole
+    → is_some (place_of file (at + off) len) ≡ true
 any_found file whole at off zero stands some within = found_empty file at off whole stands some (omega arith)
 any_found file whole at off (suc n) stands some within = ap (λ (t : Option ℕ). is_some t) (stands.found off (suc n) (omega arith) within)
 
@@ -177,7 +184,8 @@ or_some : (a b : Bool) → b ≡ true → (a || b) ≡ true
 or_some true b h = refl
 or_some false b h = h
 
-cells_found : (file whole : List ℕ) (at off cells arrays : ℕ) (is : List ImportSection) → Stands file at whole → 0 < length whole → cells ≡ at + off → off + sizes is ≤ length whole
+cells_found : (file whole : List ℕ) (at off cells arrays : ℕ) (is : List ImportSection) → Stands file at whole → 0 < length whole
+    → cells ≡ at + off → off + sizes is ≤ length whole
     → AllByRecursion (λ i. has_cells file i ≡ true) (placed_imports cells arrays is)
 unfolding has_cells
 cells_found file whole at off cells arrays [] stands some here within = tt
@@ -186,22 +194,26 @@ cells_found file whole at off cells arrays (i ∷ is) stands some here within = 
   cells_found file whole at (off + i.size) (cells + i.size) (arrays + 4 * slot_count i) is stands some (omega arith) (omega arith),
 )
 
-cells_all : (file : List ℕ) (plan : Image) (at rows : ℕ) → Room plan at → Carries file plan at rows → AllByRecursion (λ i. has_cells file i ≡ true) (written_imports plan at)
+cells_all : (file : List ℕ) (plan : Image) (at rows : ℕ) → Room plan at → Carries file plan at rows
+    → AllByRecursion (λ i. has_cells file i ≡ true) (written_imports plan at)
 unfolding written_imports
 cells_all file plan at rows r c =
     cells_found file (part_bytes plan at) at 0 at (at + (parts_of plan).arrays) plan.imports c.stands r.some (omega arith) (omega (arith, r.cells, r.front))
 
-pub cells_placed : (file : List ℕ) (plan : Image) (at rows : ℕ) → IsPlan plan at → FitsTypes plan → Carries file plan at rows → unplaced_cells file (part_of file 101) ≡ None
+pub cells_placed : (file : List ℕ) (plan : Image) (at rows : ℕ) → IsPlan plan at → FitsTypes plan → Carries file plan at rows
+    → unplaced_cells file (part_of file 101) ≡ None
 unfolding unplaced_cells has_cells
 cells_placed file plan at rows p f c = none_of file plan at rows (has_cells file) (cells_are_placed file) p f c (λ place. refl) (cells_all file plan at rows (room plan at p f) c)
 
 own_form : List ℕ → ImportSection → Bool
 own_form file i = i.kind == 0 && i.entry_size == 8 && i.size % 8 == 0 && i.auxiliary == 0 && is_some (array_place file i)
 
-all_five : (kind entry_size rest auxiliary : ℕ) (found : Bool) → kind ≡ 0 → entry_size ≡ 8 → rest ≡ 0 → auxiliary ≡ 0 → found ≡ true → (kind == 0 && entry_size == 8 && rest == 0 && auxiliary == 0 && found) ≡ true
+all_five : (kind entry_size rest auxiliary : ℕ) (found : Bool) → kind ≡ 0 → entry_size ≡ 8 → rest ≡ 0 → auxiliary ≡ 0 → found ≡ true
+    → (kind == 0 && entry_size == 8 && rest == 0 && auxiliary == 0 && found) ≡ true
 all_five kind entry_size rest auxiliary found a b c d e = rw (a, b, c, d, e) refl
 
-forms_found : (file whole : List ℕ) (at off cells arrays : ℕ) (is : List ImportSection) → Stands file at whole → 0 < length whole → HaveForm is → arrays ≡ at + off → off + 4 * counts is ≤ length whole
+forms_found : (file whole : List ℕ) (at off cells arrays : ℕ) (is : List ImportSection) → Stands file at whole → 0 < length whole
+    → HaveForm is → arrays ≡ at + off → off + 4 * counts is ≤ length whole
     → AllByRecursion (λ i. own_form file i ≡ true) (placed_imports cells arrays is)
 unfolding own_form
 forms_found file whole at off cells arrays [] stands some forms here within = tt
@@ -212,18 +224,21 @@ forms_found file whole at off cells arrays (i ∷ is) stands some (form, forms) 
       forms_found file whole at (off + n) (cells + i.size) (arrays + n) is stands some forms (omega arith) (omega arith),
     )
 
-forms_all : (file : List ℕ) (plan : Image) (at rows : ℕ) → Room plan at → Carries file plan at rows → AllByRecursion (λ i. own_form file i ≡ true) (written_imports plan at)
+forms_all : (file : List ℕ) (plan : Image) (at rows : ℕ) → Room plan at → Carries file plan at rows
+    → AllByRecursion (λ i. own_form file i ≡ true) (written_imports plan at)
 unfolding written_imports
 forms_all file plan at rows r c =
     forms_found file (part_bytes plan at) at (parts_of plan).arrays at (at + (parts_of plan).arrays) plan.imports c.stands r.some r.forms refl (omega (arith, r.slots, r.arrays))
 
-pub forms_own : (file : List ℕ) (plan : Image) (at rows : ℕ) → IsPlan plan at → FitsTypes plan → Carries file plan at rows → foreign_import file (part_of file 101) ≡ None
+pub forms_own : (file : List ℕ) (plan : Image) (at rows : ℕ) → IsPlan plan at → FitsTypes plan → Carries file plan at rows
+    → foreign_import file (part_of file 101) ≡ None
 unfolding foreign_import own_form
 forms_own file plan at rows p f c = none_of file plan at rows (own_form file) (has_own_form file) p f c (λ place. refl) (forms_all file plan at rows (room plan at p f) c)
 
 -- ---- each record's cells stand behind those of the record before
 
-in_order : (file : List ℕ) (start cells arrays : ℕ) (is : List ImportSection) → records (import_at file) start 20 (length is) ≡ placed_imports cells arrays is
+in_order : (file : List ℕ) (start cells arrays : ℕ) (is : List ImportSection)
+    → records (import_at file) start 20 (length is) ≡ placed_imports cells arrays is
     → first_record (follows file) (start + 20) 20 (length is - 1) ≡ None
 in_order file start cells arrays [] e = refl
 in_order file start cells arrays (i ∷ []) e = refl
@@ -240,7 +255,8 @@ in_order file start cells arrays (i ∷ j ∷ is) e =
     let rest : length is ≡ length (j ∷ is) - 1 = omega arith in
     rw (more, holds, rest) (in_order file (start + 20) (cells + i.size) (arrays + 4 * slot_count i) (j ∷ is) others)
 
-pub cells_in_order : (file : List ℕ) (plan : Image) (at rows : ℕ) → IsPlan plan at → FitsTypes plan → Carries file plan at rows → out_of_order file (part_of file 101) ≡ None
+pub cells_in_order : (file : List ℕ) (plan : Image) (at rows : ℕ) → IsPlan plan at → FitsTypes plan → Carries file plan at rows
+    → out_of_order file (part_of file 101) ≡ None
 unfolding out_of_order written_imports
 cells_in_order file plan at rows p f c =
     let part = imports_part file plan at rows p f c in

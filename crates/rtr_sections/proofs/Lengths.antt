@@ -16,7 +16,8 @@ use Rattle.rtr_sections.proofs.Stands.{end-is}
 
 -- ---- an entry
 
-pub bare_content : (function : ℕ) (list : List SlotRef) → length list ≡ 0 → length (content_of_entry function list) ≡ length (short_uint (2 * function))
+pub bare_content : (function : ℕ) (list : List SlotRef) → length list ≡ 0
+    → length (content_of_entry function list) ≡ length (short_uint (2 * function))
 bare_content function [] none = refl
 bare_content function (slot ∷ slots) none = absurd (omega (arith, none))
 
@@ -41,7 +42,8 @@ lengths_more entries i d e lt is =
     )
 
 -- a row that comes next, and those after it
-pub row_next : (entries : List EntryPoint) (least i : ℕ) (d e : EntryPoint) → i < length entries → e ≡ get_or entries i d → RowsAscend least (drop i entries)
+pub row_next : (entries : List EntryPoint) (least i : ℕ) (d e : EntryPoint) → i < length entries → e ≡ get_or entries i d
+    → RowsAscend least (drop i entries)
     → (least ≤ e.row) × RowsAscend (e.row + 1) (drop (i + 1) entries)
 row_next entries least i d e lt is h =
     let next : drop i entries ≡ e ∷ drop (i + 1) entries = drop_more entries i d lt ∙ ap (λ (x : EntryPoint). x ∷ drop (i + 1) entries) (sym is) in
@@ -52,7 +54,8 @@ row_within [] i d lt = absurd (omega arith)
 row_within (e ∷ es) zero d lt = omega arith
 row_within (e ∷ es) (suc i) d lt = omega (arith, row_within es i d (omega arith))
 
-pub entries_len_is : (entries : List EntryPoint) → length (sparse_bytes (highest_row entries) (map element_of_entry entries)) ≡ sparse_len (highest_row entries) (lengths entries)
+pub entries_len_is : (entries : List EntryPoint)
+    → length (sparse_bytes (highest_row entries) (map element_of_entry entries)) ≡ sparse_len (highest_row entries) (lengths entries)
     → sparse_len (highest_row entries) (lengths entries) ≡ length (entry_bytes entries)
 unfolding entry_bytes
 entries_len_is entries law = sym law
@@ -66,7 +69,8 @@ unfolding parts_of
 part_len plan at = omega (arith, end-is plan at)
 
 -- a plan is one exactly where its length is below the limit
-pub plan_is : (plan : Image) (at n : ℕ) → n ≡ capped (length (part_bytes plan at)) → IsWellPlanned plan → at ≤ 2 ^ 31 → n < 2 ^ 24 → IsPlan plan at
+pub plan_is : (plan : Image) (at n : ℕ) → n ≡ capped (length (part_bytes plan at)) → IsWellPlanned plan → at ≤ 2 ^ 31 → n < 2 ^ 24
+    → IsPlan plan at
 plan_is plan at n is p low small = record { planned = p; small = omega (arith, is); low = low }
 
 pub plan_short : (plan : Image) (at n : ℕ) → n ≡ capped (length (part_bytes plan at)) → IsPlan plan at → n < 2 ^ 24

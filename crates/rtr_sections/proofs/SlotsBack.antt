@@ -33,7 +33,8 @@ use Rattle.rtr_sections.proofs.Stands.{Stands, are_parts, arrays_stand, cells_st
 abbrev FitsSlot : Slot → Type 0
 FitsSlot s = IsSpellable s.fixup × (s.word < 2 ^ 64)
 
-same_slot : (o : Option Fixup) (w : Option ℕ) (s : Slot) → o ≡ Some s.fixup → w ≡ Some s.word → option_map (λ fixup. record { fixup = fixup; word = unwrap_or w 0 }) o ≡ Some s
+same_slot : (o : Option Fixup) (w : Option ℕ) (s : Slot) → o ≡ Some s.fixup → w ≡ Some s.word
+    → option_map (λ fixup. record { fixup = fixup; word = unwrap_or w 0 }) o ≡ Some s
 same_slot o w s e h = rw (e, h) refl
 
 -- whose signature stands at an RVA that the array's word says
@@ -58,8 +59,10 @@ SlotsFound file array cell (s ∷ ss) = (slot_at file array cell ≡ Some s) × 
 some_byte : (fixup : Fixup) → 0 < length (fixup_bytes fixup)
 some_byte fixup = omega arith
 
-slots_found : (file : List ℕ) (array cell rva : ℕ) (ss : List Slot) (behind_words behind_cells : List ℕ) → AllByRecursion FitsSlot ss → rva + length (signature_bytes_of ss) < 2 ^ 32
-    → drop array file ≡ words (signature_rvas rva ss) ++ behind_words → drop cell file ≡ cell_bytes ss ++ behind_cells → Stands file rva (signature_bytes_of ss) → SlotsFound file array cell ss
+slots_found : (file : List ℕ) (array cell rva : ℕ) (ss : List Slot) (behind_words behind_cells : List ℕ) → AllByRecursion FitsSlot ss
+    → rva + length (signature_bytes_of ss) < 2 ^ 32
+    → drop array file ≡ words (signature_rvas rva ss) ++ behind_words → drop cell file ≡ cell_bytes ss ++ behind_cells
+    → Stands file rva (signature_bytes_of ss) → SlotsFound file array cell ss
 slots_found file array cell rva [] bw bc fits low a c stands = tt
 slots_found file array cell rva (s ∷ ss) bw bc (fit, fits) low a c stands =
     let sig = fixup_bytes s.fixup in
@@ -81,7 +84,8 @@ slots_found file array cell rva (s ∷ ss) bw bc (fit, fits) low a c stands =
     )
 
 -- those of one import section are the first of what is left
-present_first : (file : List ℕ) (array cell i n : ℕ) (ss : List Slot) → SlotsFound file (array + 4 * i) (cell + 8 * i) ss → n ≤ length ss → present (λ j. slot_at file (array + 4 * j) (cell + 8 * j)) i n ≡ take n ss
+present_first : (file : List ℕ) (array cell i n : ℕ) (ss : List Slot) → SlotsFound file (array + 4 * i) (cell + 8 * i) ss → n ≤ length ss
+    → present (λ j. slot_at file (array + 4 * j) (cell + 8 * j)) i n ≡ take n ss
 present_first file array cell i zero ss h within = refl
 present_first file array cell i (suc n) [] h within = absurd (omega arith)
 present_first file array cell i (suc n) (s ∷ ss) (found, h) within =
@@ -100,7 +104,8 @@ none_first file array cell i (suc n) (s ∷ ss) (found, h) within =
     let next : SlotsFound file (array + 4 * (i + 1)) (cell + 8 * (i + 1)) ss = rw (a, c) at h in
     rw found (none_first file array cell (i + 1) n ss next (omega arith))
 
-found_later : (file : List ℕ) (array cell n : ℕ) (ss : List Slot) → SlotsFound file array cell ss → n ≤ length ss → SlotsFound file (array + 4 * n) (cell + 8 * n) (drop n ss)
+found_later : (file : List ℕ) (array cell n : ℕ) (ss : List Slot) → SlotsFound file array cell ss → n ≤ length ss
+    → SlotsFound file (array + 4 * n) (cell + 8 * n) (drop n ss)
 found_later file array cell zero ss h within =
     let a : array + 4 * 0 ≡ array = omega arith in
     let c : cell + 8 * 0 ≡ cell = omega arith in
@@ -118,7 +123,8 @@ record IsAt (file : List ℕ) (i : ImportSection) (array cell : ℕ) : Type 0 wh
   array_is : 0 < slot_count i → array_at file i ≡ array
   cells_are : 0 < slot_count i → cells_at file i ≡ cell
 
-present_at : (file : List ℕ) (i : ImportSection) (n array cell : ℕ) → (0 < n → array_at file i ≡ array) → (0 < n → cells_at file i ≡ cell) → present (slot_of file i) 0 n ≡ present (λ j. slot_at file (array + 4 * j) (cell + 8 * j)) 0 n
+present_at : (file : List ℕ) (i : ImportSection) (n array cell : ℕ) → (0 < n → array_at file i ≡ array) → (0 < n → cells_at file i ≡ cell)
+    → present (slot_of file i) 0 n ≡ present (λ j. slot_at file (array + 4 * j) (cell + 8 * j)) 0 n
 present_at file i zero array cell a c = refl
 present_at file i (suc n) array cell a c =
     let P : ℕ → ℕ → List Slot = λ x y. present (λ j. slot_at file (x + 4 * j) (y + 8 * j)) 0 (suc n) in
@@ -131,14 +137,16 @@ bad_at file i (suc n) array cell a c =
     let P : ℕ → ℕ → Option ℕ = λ x y. first_bad (λ j. if is_some (slot_at file (x + 4 * j) (y + 8 * j)) then None else Some (x + 4 * j)) 0 (suc n) in
     ap (λ (t : ℕ). P t (cells_at file i)) (a (omega arith)) ∙ ap (λ (t : ℕ). P array t) (c (omega arith))
 
-section_slots : (file : List ℕ) (i : ImportSection) (array cell : ℕ) (ss : List Slot) → IsAt file i array cell → SlotsFound file array cell ss → slot_count i ≤ length ss → slots_in file i ≡ take (slot_count i) ss
+section_slots : (file : List ℕ) (i : ImportSection) (array cell : ℕ) (ss : List Slot) → IsAt file i array cell
+    → SlotsFound file array cell ss → slot_count i ≤ length ss → slots_in file i ≡ take (slot_count i) ss
 unfolding slots_in
 section_slots file i array cell ss at h within =
     let a : array + 4 * 0 ≡ array = omega arith in
     let c : cell + 8 * 0 ≡ cell = omega arith in
     present_at file i (slot_count i) array cell at.array_is at.cells_are ∙ present_first file array cell 0 (slot_count i) ss (rw (a, c) h) within
 
-section_good : (file : List ℕ) (i : ImportSection) (array cell : ℕ) (ss : List Slot) → IsAt file i array cell → SlotsFound file array cell ss → slot_count i ≤ length ss → first_bad_word file i ≡ None
+section_good : (file : List ℕ) (i : ImportSection) (array cell : ℕ) (ss : List Slot) → IsAt file i array cell
+    → SlotsFound file array cell ss → slot_count i ≤ length ss → first_bad_word file i ≡ None
 unfolding first_bad_word
 section_good file i array cell ss at h within =
     let a : array + 4 * 0 ≡ array = omega arith in
@@ -152,7 +160,8 @@ abbrev AreAt : List ℕ → ℕ → ℕ → List ImportSection → Type 0
 AreAt file array cell [] = Unit {0}
 AreAt file array cell (i ∷ is) = IsAt file i array cell × AreAt file (array + 4 * slot_count i) (cell + 8 * slot_count i) is
 
-all_found : (file : List ℕ) (array cell : ℕ) (is : List ImportSection) (ss : List Slot) → AreAt file array cell is → SlotsFound file array cell ss → counts is ≡ length ss → all_slots file is ≡ ss
+all_found : (file : List ℕ) (array cell : ℕ) (is : List ImportSection) (ss : List Slot) → AreAt file array cell is
+    → SlotsFound file array cell ss → counts is ≡ length ss → all_slots file is ≡ ss
 all_found file array cell [] [] at h n = refl
 all_found file array cell [] (s ∷ ss) at h n = absurd (omega arith)
 all_found file array cell (i ∷ is) ss (at, ats) h n =
@@ -162,7 +171,8 @@ all_found file array cell (i ∷ is) ss (at, ats) h n =
     let others = all_found file (array + 4 * k) (cell + 8 * k) is (drop k ss) ats (found_later file array cell k ss h (omega arith)) left in
     ap (λ (t : List Slot). t ++ all_slots file is) first ∙ ap (λ (t : List Slot). take k ss ++ t) others ∙ take-append-drop k ss
 
-all_good : (file : List ℕ) (array cell : ℕ) (is : List ImportSection) (ss : List Slot) → AreAt file array cell is → SlotsFound file array cell ss → counts is ≡ length ss → first_bad_of file is ≡ None
+all_good : (file : List ℕ) (array cell : ℕ) (is : List ImportSection) (ss : List Slot) → AreAt file array cell is
+    → SlotsFound file array cell ss → counts is ≡ length ss → first_bad_of file is ≡ None
 all_good file array cell [] ss at h n = refl
 all_good file array cell (i ∷ is) ss (at, ats) h n =
     let k = slot_count i in
@@ -175,9 +185,11 @@ counts-placed cells arrays [] = refl
 counts-placed cells arrays (i ∷ is) = ap (λ (t : ℕ). slot_count i + t) (counts-placed (cells + i.size) (arrays + 4 * slot_count i) is)
 
 -- of the sections that are written
-are_at : (file arrays_piece cells_piece : List ℕ) (array_rva cell_rva array_off cell_off arrays cells array cell : ℕ) (is : List ImportSection) (a : Stands file array_rva arrays_piece) (c : Stands file cell_rva cells_piece) → HaveForm is
+are_at : (file arrays_piece cells_piece : List ℕ) (array_rva cell_rva array_off cell_off arrays cells array cell : ℕ) (is : List ImportSection) (a : Stands file array_rva arrays_piece) (c : Stands file cell_rva cells_piece)
+    → HaveForm is
     → array_off + 4 * counts is ≤ length arrays_piece → cell_off + 8 * counts is ≤ length cells_piece
-    → arrays ≡ array_rva + array_off → cells ≡ cell_rva + cell_off → array ≡ a.place + array_off → cell ≡ c.place + cell_off → AreAt file array cell (placed_imports cells arrays is)
+    → arrays ≡ array_rva + array_off → cells ≡ cell_rva + cell_off → array ≡ a.place + array_off → cell ≡ c.place + cell_off
+    → AreAt file array cell (placed_imports cells arrays is)
 are_at file ap_ cp array_rva cell_rva ao co arrays cells array cell [] a c form h k e1 e2 e3 e4 = tt
 are_at file ap_ cp array_rva cell_rva ao co arrays cells array cell (i ∷ is) a c (form, forms) h k e1 e2 e3 e4 =
     let n = slot_count i in
@@ -192,7 +204,8 @@ are_at file ap_ cp array_rva cell_rva ao co arrays cells array cell (i ∷ is) a
 
 -- ---- the plan's
 
-both : (ss : List Slot) → AllByRecursion (λ s. IsSpellable s.fixup) ss → AllByRecursion (λ s. s.word < 2 ^ 64) ss → AllByRecursion FitsSlot ss
+both : (ss : List Slot) → AllByRecursion (λ s. IsSpellable s.fixup) ss → AllByRecursion (λ s. s.word < 2 ^ 64) ss
+    → AllByRecursion FitsSlot ss
 both [] h k = tt
 both (s ∷ ss) (h, hs) (k, ks) = ((h, k), both ss hs ks)
 
@@ -203,7 +216,8 @@ record AreSlots (file : List ℕ) (plan : Image) (at : ℕ) : Type 0 where
   slots : SlotsFound file array cell plan.slots
   count : counts (written_imports plan at) ≡ length plan.slots
 
-are_slots : (file : List ℕ) (plan : Image) (at rows : ℕ) → IsPlan plan at → FitsTypes plan → Carries file plan at rows → AreSlots file plan at
+are_slots : (file : List ℕ) (plan : Image) (at rows : ℕ) → IsPlan plan at → FitsTypes plan → Carries file plan at rows
+    → AreSlots file plan at
 unfolding written_imports
 are_slots file plan at rows p f c =
     let r = room plan at p f in
@@ -223,12 +237,14 @@ are_slots file plan at rows p f c =
       count = counts-placed at (at + (parts_of plan).arrays) plan.imports ∙ r.slots;
     }
 
-pub slots_back : (file : List ℕ) (plan : Image) (at rows : ℕ) → IsPlan plan at → FitsTypes plan → Carries file plan at rows → all_slots file (imports_in file (part_of file 101)) ≡ plan.slots
+pub slots_back : (file : List ℕ) (plan : Image) (at rows : ℕ) → IsPlan plan at → FitsTypes plan → Carries file plan at rows
+    → all_slots file (imports_in file (part_of file 101)) ≡ plan.slots
 slots_back file plan at rows p f c =
     let r = are_slots file plan at rows p f c in
     ap (λ (t : List ImportSection). all_slots file t) (imports_back file plan at rows p f c) ∙ all_found file r.array r.cell (written_imports plan at) plan.slots r.sections r.slots r.count
 
-pub slots_good : (file : List ℕ) (plan : Image) (at rows : ℕ) → IsPlan plan at → FitsTypes plan → Carries file plan at rows → first_bad_of file (imports_in file (part_of file 101)) ≡ None
+pub slots_good : (file : List ℕ) (plan : Image) (at rows : ℕ) → IsPlan plan at → FitsTypes plan → Carries file plan at rows
+    → first_bad_of file (imports_in file (part_of file 101)) ≡ None
 slots_good file plan at rows p f c =
     let r = are_slots file plan at rows p f c in
     ap (λ (t : List ImportSection). first_bad_of file t) (imports_back file plan at rows p f c) ∙ all_good file r.array r.cell (written_imports plan at) plan.slots r.sections r.slots r.count

@@ -55,7 +55,8 @@ fixup_spellable s fixup (rest, is, h) = payload_spellable rest (signature_of fix
 abbrev HasSpelling : Slot → Type 0
 HasSpelling slot = IsSpellable slot.fixup
 
-slot_fixup : (o : Option Fixup) (word : ℕ) (slot : Slot) → option_map (λ fixup. record { fixup = fixup; word = word }) o ≡ Some slot → o ≡ Some slot.fixup
+slot_fixup : (o : Option Fixup) (word : ℕ) (slot : Slot) → option_map (λ fixup. record { fixup = fixup; word = word }) o ≡ Some slot
+    → o ≡ Some slot.fixup
 slot_fixup None word slot e = absurd (let x : ⊥ = cc in x)
 slot_fixup (Some fixup) word slot e =
     let made : Slot = record { fixup = fixup; word = word } in

@@ -52,7 +52,8 @@ stands_front file rva piece behind stands = record {
 }
 
 -- what is behind other bytes
-pub stands_behind : (file : List ℕ) (rva : ℕ) (front piece : List ℕ) → Stands file rva (front ++ piece) → Stands file (rva + length front) piece
+pub stands_behind : (file : List ℕ) (rva : ℕ) (front piece : List ℕ) → Stands file rva (front ++ piece)
+    → Stands file (rva + length front) piece
 stands_behind file rva front piece stands =
     let n = length front in
     record {
@@ -110,7 +111,8 @@ number_stands k x file place front behind piece is inside same fits =
 
 -- ---- lengths
 
-length-of_equals : {X : Type 0} (f : X → List ℕ) (n : ℕ) → ((x : X) → length (f x) ≡ n) → (xs : List X) → length (flat_map f xs) ≡ n * length xs
+length-of_equals : {X : Type 0} (f : X → List ℕ) (n : ℕ) → ((x : X) → length (f x) ≡ n) → (xs : List X)
+    → length (flat_map f xs) ≡ n * length xs
 length-of_equals f n each [] = omega arith
 length-of_equals f n each (x ∷ xs) = omega (arith, length-append (f x) (flat_map f xs), each x, length-of_equals f n each xs)
 
@@ -221,7 +223,8 @@ abbrev StandInARow : List ℕ → ℕ → List (List ℕ) → Type 0
 StandInARow file rva [] = Unit {0}
 StandInARow file rva (part ∷ parts) = Stands file rva part × StandInARow file (rva + length part) parts
 
-stand_in_a_row : (file : List ℕ) (rva : ℕ) (parts : List (List ℕ)) → Stands file rva (flat_map (λ part. part) parts) → StandInARow file rva parts
+stand_in_a_row : (file : List ℕ) (rva : ℕ) (parts : List (List ℕ)) → Stands file rva (flat_map (λ part. part) parts)
+    → StandInARow file rva parts
 stand_in_a_row file rva [] stands = tt
 stand_in_a_row file rva (part ∷ parts) stands =
     let rest = flat_map (λ part. part) parts in

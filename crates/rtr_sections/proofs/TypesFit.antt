@@ -16,7 +16,8 @@ abbrev HasFlags : ImportSection → Type 0
 HasFlags i = i.flags < 2 ^ 16
 
 -- the slot of a name fits, and so does its section
-names_fit : (imports : List ImportSection) (section slot : ℕ) → Names imports section slot → All HasSize imports → (section < length imports) × (slot < 2 ^ 32)
+names_fit : (imports : List ImportSection) (section slot : ℕ) → Names imports section slot → All HasSize imports
+    → (section < length imports) × (slot < 2 ^ 32)
 names_fit [] section slot h sizes = absurd h
 names_fit (import ∷ imports) zero slot h sizes = (omega arith, omega (arith, All-head HasSize import imports sizes))
 names_fit (import ∷ imports) (suc section) slot h sizes =
@@ -36,7 +37,8 @@ flags_kept (import ∷ imports) cells arrays h =
     let others = placed_imports (cells + import.size) (arrays + 4 * slot_count import) imports in
     All-cons HasFlags import imports (All-head HasFlags placed others h) (flags_kept imports (cells + import.size) (arrays + 4 * slot_count import) (All-tail HasFlags placed others h))
 
-pub types_fit : (plan : Image) (at cells arrays : ℕ) (placed : List ImportSection) → IsPlan plan at → placed ≡ placed_imports cells arrays plan.imports
+pub types_fit : (plan : Image) (at cells arrays : ℕ) (placed : List ImportSection) → IsPlan plan at
+    → placed ≡ placed_imports cells arrays plan.imports
     → plan.header.flags < 2 ^ 32 → All (λ s. (s.rva < 2 ^ 32) × (s.size < 2 ^ 32)) plan.header.sections
     → All (λ i. i.size < 2 ^ 32) plan.imports → All (λ i. i.flags < 2 ^ 16) placed → All (λ s. s.word < 2 ^ 64) plan.slots
     → All (λ f. f.begin < 2 ^ 32) plan.functions → All (λ f. f.length < 2 ^ 32) plan.functions → FitsTypes plan

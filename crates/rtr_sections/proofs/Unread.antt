@@ -10,25 +10,28 @@ use Rattle.rtr_sections.specs.declared.image.Image.{Image}
 use Rattle.rtr_sections.specs.declared.imports.ImportSection.{ImportSection}
 use Rattle.rtr_sections.specs.declared.slots.Slot.{Slot}
 use Rattle.rtr_sections.specs.Imports.{slot_count}
-use Rattle.rtr_sections.specs.Parts.{Parts, cell_spans, entry_bytes, header_span, parts_behind, parts_of, placed_imports, part_bytes, sections_at, signature_bytes_of, thunks_of, written_imports, written_sections}
+use Rattle.rtr_sections.specs.Parts.{Parts, cell_spans, entry_bytes, header_span, parts_in_order, parts_of, placed_imports, part_bytes, sections_at, signature_bytes_of, thunks_of, written_imports, written_sections}
 use Rattle.rtr_sections.specs.Written.{asked_of, shape_of, without_begin, without_own_range, without_places, without_word}
 use Rattle.rtr_sections.proofs.Stands.{end-is}
 
 -- ---- lists without what isn't read
 
-placed_alone : (imports : List ImportSection) (cells arrays : ℕ) → placed_imports cells arrays (map without_places imports) ≡ placed_imports cells arrays imports
+placed_alone : (imports : List ImportSection) (cells arrays : ℕ)
+    → placed_imports cells arrays (map without_places imports) ≡ placed_imports cells arrays imports
 placed_alone [] cells arrays = refl
 placed_alone (import ∷ imports) cells arrays =
     ap (λ (t : List ImportSection). record import { rva = cells; signatures = arrays } ∷ t) (placed_alone imports (cells + import.size) (arrays + 4 * slot_count import))
 
-pub same_placed : (xs ys : List ImportSection) (cells arrays : ℕ) → map without_places xs ≡ map without_places ys → placed_imports cells arrays xs ≡ placed_imports cells arrays ys
+pub same_placed : (xs ys : List ImportSection) (cells arrays : ℕ) → map without_places xs ≡ map without_places ys
+    → placed_imports cells arrays xs ≡ placed_imports cells arrays ys
 same_placed xs ys cells arrays e =
     sym (placed_alone xs cells arrays) ∙ ap (λ (t : List ImportSection). placed_imports cells arrays t) e ∙ placed_alone ys cells arrays
 
 pub same_count : {X : Type 0} (f : X → X) (xs ys : List X) → map f xs ≡ map f ys → length xs ≡ length ys
 same_count {X} f xs ys e = sym (length-map xs f) ∙ ap (λ (t : List X). length t) e ∙ length-map ys f
 
-thunks_step : (s : RtrSection) (sections : List RtrSection) (b : Bool) → (s.kind == 106) ≡ b → thunks_of (map without_own_range sections) ≡ thunks_of sections
+thunks_step : (s : RtrSection) (sections : List RtrSection) (b : Bool) → (s.kind == 106) ≡ b
+    → thunks_of (map without_own_range sections) ≡ thunks_of sections
     → thunks_of (map without_own_range (s ∷ sections)) ≡ thunks_of (s ∷ sections)
 thunks_step s sections true e more = simp e refl
 thunks_step s sections false e more = simp e more
@@ -49,11 +52,12 @@ same_signatures xs ys e = sym (signatures_alone xs) ∙ ap (λ (t : List Slot). 
 
 -- ---- the parts' places
 
-same_behind : (i j s t f g b c e d : ℕ) → i ≡ j → s ≡ t → f ≡ g → b ≡ c → e ≡ d → parts_behind i s f b e ≡ parts_behind j t g c d
+same_behind : (i j s t f g b c e d : ℕ) → i ≡ j → s ≡ t → f ≡ g → b ≡ c → e ≡ d → parts_in_order i s f b e ≡ parts_in_order j t g c d
 same_behind i j s t f g b c e d h1 h2 h3 h4 h5 = cc
 
 -- the same counts and lengths have the same places
-pub same_parts : (p q : Image) → length p.imports ≡ length q.imports → length p.slots ≡ length q.slots → length p.functions ≡ length q.functions
+pub same_parts : (p q : Image) → length p.imports ≡ length q.imports → length p.slots ≡ length q.slots
+    → length p.functions ≡ length q.functions
     → signature_bytes_of p.slots ≡ signature_bytes_of q.slots → p.entries ≡ q.entries → parts_of p ≡ parts_of q
 unfolding parts_of
 same_parts p q imports slots functions signatures entries =

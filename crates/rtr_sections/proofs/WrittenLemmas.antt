@@ -49,7 +49,8 @@ record IsFive (sections : List RtrSection) : Type 0 where
 of_kind : (s : RtrSection) (k : ℕ) → s.kind ≡ k → s ≡ section k s.rva s.size
 of_kind s k h = ap (λ (t : ℕ). section t s.rva s.size) h
 
-five_of : (a b c d e : RtrSection) → a.kind ≡ 100 → b.kind ≡ 101 → c.kind ≡ 102 → d.kind ≡ 103 → e.kind ≡ 106 → IsFive (a ∷ b ∷ c ∷ d ∷ e ∷ [])
+five_of : (a b c d e : RtrSection) → a.kind ≡ 100 → b.kind ≡ 101 → c.kind ≡ 102 → d.kind ≡ 103 → e.kind ≡ 106
+    → IsFive (a ∷ b ∷ c ∷ d ∷ e ∷ [])
 five_of a b c d e ka kb kc kd ke = record {
   a = a;
   b = b;
@@ -77,8 +78,10 @@ are_five (a ∷ b ∷ c ∷ d ∷ []) h = absurd cc
 are_five (a ∷ b ∷ c ∷ d ∷ e ∷ []) h = five_of a b c d e (cc) (cc) (cc) (cc) (cc)
 are_five (a ∷ b ∷ c ∷ d ∷ e ∷ f ∷ more) h = absurd cc
 
-ranged_five : (sections : List RtrSection) (places : PartPlaces) (entries : Span) (at : ℕ) (parts : Parts) → IsFive sections → ArePlaces places at parts
-    → entries.start ≡ at + parts.entries → entries.len ≡ parts.end - parts.entries → map (ranged places entries) sections ≡ sections_at at parts (thunks_of sections)
+ranged_five : (sections : List RtrSection) (places : PartPlaces) (entries : Span) (at : ℕ) (parts : Parts) → IsFive sections
+    → ArePlaces places at parts
+    → entries.start ≡ at + parts.entries → entries.len ≡ parts.end - parts.entries
+    → map (ranged places entries) sections ≡ sections_at at parts (thunks_of sections)
 ranged_five sections places entries at parts five p start len =
     let identifier = p.identifier in
     let imports = p.imports in
@@ -89,26 +92,32 @@ ranged_five sections places entries at parts five p start len =
     rw (is, import_size, function_size, identifier, imports, functions, start, len) refl
 
 pub sections_are : (plan : Image) (at : ℕ) (places : PartPlaces) (entries : Span) → IsWellPlanned plan → ArePlaces places at (parts_of plan)
-    → entries.start ≡ at + (parts_of plan).entries → entries.len ≡ (parts_of plan).end - (parts_of plan).entries → map (ranged places entries) plan.header.sections ≡ written_sections plan at
+    → entries.start ≡ at + (parts_of plan).entries → entries.len ≡ (parts_of plan).end - (parts_of plan).entries
+    → map (ranged places entries) plan.header.sections ≡ written_sections plan at
 unfolding written_sections
 sections_are plan at places entries p places_are start len =
     ranged_five plan.header.sections places entries at (parts_of plan) (are_five plan.header.sections p.sections) places_are start len
 
-pub imports_are : (plan : Image) (at : ℕ) (places : PartPlaces) (placed : List ImportSection) → ArePlaces places at (parts_of plan) → placed ≡ placed_imports at places.arrays plan.imports → placed ≡ written_imports plan at
+pub imports_are : (plan : Image) (at : ℕ) (places : PartPlaces) (placed : List ImportSection) → ArePlaces places at (parts_of plan)
+    → placed ≡ placed_imports at places.arrays plan.imports → placed ≡ written_imports plan at
 unfolding written_imports
 imports_are plan at places placed p e = e ∙ ap (λ (t : ℕ). placed_imports at t plan.imports) p.arrays
 
 -- ---- the parts, one behind the other
 
-nine_put : (empty one two a b c d e f g h i : List ℕ) → empty ≡ [] → one ≡ empty ++ (a ++ (b ++ c)) → two ≡ one ++ (d ++ (e ++ (f ++ (g ++ (h ++ i)))))
+nine_put : (empty one two a b c d e f g h i : List ℕ) → empty ≡ [] → one ≡ empty ++ (a ++ (b ++ c))
+    → two ≡ one ++ (d ++ (e ++ (f ++ (g ++ (h ++ i)))))
     → two ≡ flat_map (λ part. part) (a ∷ b ∷ c ∷ d ∷ e ∷ f ∷ g ∷ h ∷ i ∷ [])
 nine_put empty one two a b c d e f g h i none first second =
     rw (second, first, none) (simp (append_assoc, append-nil) refl)
 
-pub bytes_are : (plan : Image) (at : ℕ) (places : PartPlaces) (range : Span) (placed : List ImportSection) (rvas signatures entries empty one two : List ℕ) → IsWellPlanned plan → ArePlaces places at (parts_of plan)
+pub bytes_are : (plan : Image) (at : ℕ) (places : PartPlaces) (range : Span) (placed : List ImportSection) (rvas signatures entries empty one two : List ℕ)
+    → IsWellPlanned plan → ArePlaces places at (parts_of plan)
     → range.start ≡ at + (parts_of plan).entries → range.len ≡ (parts_of plan).end - (parts_of plan).entries
-    → placed ≡ placed_imports at places.arrays plan.imports → rvas ≡ words (signature_rvas places.signatures plan.slots) → signatures ≡ signature_bytes_of plan.slots → entries ≡ entry_bytes plan.entries
-    → empty ≡ [] → one ≡ empty ++ (cell_bytes plan.slots ++ (header_bytes plan.header.flags (map (ranged places range) plan.header.sections) ++ flat_map import_bytes placed))
+    → placed ≡ placed_imports at places.arrays plan.imports → rvas ≡ words (signature_rvas places.signatures plan.slots)
+    → signatures ≡ signature_bytes_of plan.slots → entries ≡ entry_bytes plan.entries
+    → empty ≡ []
+    → one ≡ empty ++ (cell_bytes plan.slots ++ (header_bytes plan.header.flags (map (ranged places range) plan.header.sections) ++ flat_map import_bytes placed))
     → two ≡ one ++ (rvas ++ (function_bytes places.unwinds plan.functions ++ (unwind_bytes plan.functions ++ (identifier ++ (signatures ++ entries)))))
     → two ≡ part_bytes plan at
 unfolding part_bytes

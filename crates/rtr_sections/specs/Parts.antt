@@ -1,4 +1,4 @@
--- The ReadyToRun part as this compiler writes it: the parts of it, one behind the other, where each stands, and its bytes.
+-- The ReadyToRun part as this compiler writes it: the parts of it, one after the other, where each stands, and its bytes.
 use Rattle.std.specs.Prelude.{ℕ, ◌+◌, ◌-◌, ◌*◌, ◌==◌, List, [], ◌∷◌, ◌++◌, length, map, flat_map, max, find, unwrap_or}
 use Rattle.byteorder.specs.Endian.{little_bytes}
 use Rattle.rtr_bytes.specs.declared.fault.Span.{Span}
@@ -19,7 +19,7 @@ use Rattle.rtr_sections.specs.Imports.{slot_count}
 
 -- ---- entries
 
--- a function's index above bit 0 or, in front of a list of slots, above the bits 01
+-- a function's index above bit 0 or, before a list of slots, above the bits 01
 abbrev pub content_of_entry : ℕ → List SlotRef → List ℕ
 content_of_entry function [] = short_uint (2 * function)
 content_of_entry function (slot ∷ slots) = short_uint (4 * function + 1) ++ list_bytes (slot ∷ slots)
@@ -56,8 +56,8 @@ pub record Parts : Type 0 where
 abbrev pub signature_bytes_of : List Slot → List ℕ
 signature_bytes_of slots = flat_map (λ slot. fixup_bytes slot.fixup) slots
 
-abbrev pub parts_behind : ℕ → ℕ → ℕ → ℕ → ℕ → Parts
-parts_behind imports slots functions signatures entries =
+abbrev pub parts_in_order : ℕ → ℕ → ℕ → ℕ → ℕ → Parts
+parts_in_order imports slots functions signatures entries =
     let header = 8 * slots in
     let records = header + 76 in
     let arrays = records + 20 * imports in
@@ -80,7 +80,7 @@ parts_behind imports slots functions signatures entries =
 
 unfoldable pub parts_of : Image → Parts
 parts_of plan =
-    parts_behind (length plan.imports) (length plan.slots) (length plan.functions) (length (signature_bytes_of plan.slots)) (length (entry_bytes plan.entries))
+    parts_in_order (length plan.imports) (length plan.slots) (length plan.functions) (length (signature_bytes_of plan.slots)) (length (entry_bytes plan.entries))
 
 -- ---- the records that stand there
 
@@ -103,7 +103,7 @@ sections_at at parts thunks =
 unfoldable pub written_sections : Image → ℕ → List RtrSection
 written_sections plan at = sections_at at (parts_of plan) (thunks_of plan.header.sections)
 
--- import records, whose cells and arrays stand one behind the other from two RVAs on
+-- import records, whose cells and arrays stand one after the other from two RVAs on
 abbrev pub placed_imports : ℕ → ℕ → List ImportSection → List ImportSection
 placed_imports cells arrays [] = []
 placed_imports cells arrays (import ∷ imports) =
@@ -112,7 +112,7 @@ placed_imports cells arrays (import ∷ imports) =
 unfoldable pub written_imports : Image → ℕ → List ImportSection
 written_imports plan at = placed_imports at (at + (parts_of plan).arrays) plan.imports
 
--- the RVA of each slot's signature, one behind the other from an RVA on
+-- the RVA of each slot's signature, one after the other from an RVA on
 abbrev pub signature_rvas : ℕ → List Slot → List ℕ
 signature_rvas rva [] = []
 signature_rvas rva (slot ∷ slots) = rva ∷ signature_rvas (rva + length (fixup_bytes slot.fixup)) slots
@@ -137,7 +137,7 @@ abbrev pub import_bytes : ImportSection → List ℕ
 import_bytes i =
     little_bytes 4 i.rva ++ (little_bytes 4 i.size ++ (little_bytes 2 i.flags ++ (i.kind ∷ i.entry_size ∷ (little_bytes 4 i.signatures ++ little_bytes 4 i.auxiliary))))
 
--- RuntimeFunctions, whose unwind words stand one behind the other from an RVA on
+-- RuntimeFunctions, whose unwind words stand one after the other from an RVA on
 abbrev pub function_bytes : ℕ → List Function → List ℕ
 function_bytes unwind [] = []
 function_bytes unwind (f ∷ fs) = little_bytes 4 f.begin ++ (little_bytes 4 unwind ++ function_bytes (unwind + 4) fs)
@@ -145,7 +145,7 @@ function_bytes unwind (f ∷ fs) = little_bytes 4 f.begin ++ (little_bytes 4 unw
 abbrev pub unwind_bytes : List Function → List ℕ
 unwind_bytes functions = flat_map (λ f. little_bytes 4 f.length) functions
 
--- the parts, one behind the other
+-- the parts, one after the other
 abbrev pub part_list : Image → ℕ → List (List ℕ)
 part_list plan at =
     cell_bytes plan.slots

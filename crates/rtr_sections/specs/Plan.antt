@@ -18,7 +18,7 @@ pub record HasWrittenForm (import : ImportSection) : Type 0 where
   pub whole_cells : import.size % 8 ≡ 0
   pub auxiliary : import.auxiliary ≡ 0
 
--- code of whole instructions, each behind the code of the function before
+-- code of whole instructions, each after the code of the function before
 abbrev pub AreInOrder : ℕ → List Function → Type 0
 AreInOrder low [] = Unit {0}
 AreInOrder low (f ∷ fs) = (low ≤ f.begin) × (f.begin % 4 ≡ 0) × (f.length % 4 ≡ 0) × AreInOrder (end_of f) fs

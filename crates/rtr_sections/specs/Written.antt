@@ -43,11 +43,11 @@ pub record Carries (file : List ℕ) (plan : Image) (at rows : ℕ) : Type 0 whe
   -- no entry is of a row that doesn't exist
   pub enough_rows : highest_row plan.entries ≤ rows
 
--- ---- a file that was written behind an input
+-- ---- a file that was written after an input
 
--- The writer of PE files wrote it with these bytes of `.r2rdat`, in front of which the part stands and in which the CLI
+-- The writer of PE files wrote it with these bytes of `.r2rdat`, which begin with the part and in which the CLI
 -- header at an RVA names the ReadyToRun header.
-pub record IsWrittenBehind (sections : List PeSection) (bytes dat cod : List ℕ) (cli : ℕ) (plan : Image) (file : List ℕ) : Type 0 where
+pub record IsWrittenAfter (sections : List PeSection) (bytes dat cod : List ℕ) (cli : ℕ) (plan : Image) (file : List ℕ) : Type 0 where
   -- as `write_pe` promises
   pub headers : All (StandsIn file) (header_fields (header_values sections bytes (length dat) (length cod) cli))
   pub found : FindsPart (sections_of file) file (dat_rva sections) dat

@@ -65,7 +65,7 @@ pub(crate) fn put_imports(out: &mut Vec<u8>, imports: &[ImportSection]) -> Resul
     Ok(())
 }
 
-/// Import records as they are in all but their places: their cells stand one behind the other from an RVA on, and so
+/// Import records as they are in all but their places: their cells stand one after the other from an RVA on, and so
 /// do their arrays of signatures.
 pub(crate) fn placed_imports(
     alloc: Global,
@@ -94,7 +94,7 @@ pub(crate) fn placed_imports(
     Ok(placed)
 }
 
-/// Appends the entries of functions, whose unwind words stand one behind the other from an RVA on.
+/// Appends the entries of functions, whose unwind words stand one after the other from an RVA on.
 pub(crate) fn put_functions(
     out: &mut Vec<u8>,
     functions: &[Function],
@@ -124,7 +124,7 @@ pub(crate) fn put_unwinds(out: &mut Vec<u8>, functions: &[Function]) -> Result<(
     Ok(())
 }
 
-/// The signatures of slots, one behind the other, and their RVAs.
+/// The signatures of slots, one after the other, and their RVAs.
 #[derive(Drop)]
 pub(crate) struct Signatures {
     /// Their bytes.

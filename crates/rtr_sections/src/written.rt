@@ -164,7 +164,7 @@ fn put_head(
     put_imports(out, imports)
 }
 
-/// Appends the arrays and what stands behind them: the functions with their unwind words, the identifier, the signatures
+/// Appends the arrays and what is after them: the functions with their unwind words, the identifier, the signatures
 /// and the entries.
 fn put_tables(
     out: &mut Vec<u8>,
