@@ -12,7 +12,7 @@ use Rattle.rtr_sections.specs.declared.slots.Slot.{Slot}
 use Rattle.rtr_sections.specs.declared.image.Image.{Image}
 use Rattle.rtr_sections.specs.Numbered.{first_bad, present}
 use Rattle.rtr_sections.specs.Header.{header_checks, is_own, part_of}
-use Rattle.rtr_sections.specs.Imports.{all_slots, array_at, first_bad_of, first_bad_word, imports_in, slot_count, slot_of, slots_in}
+use Rattle.rtr_sections.specs.Imports.{all_slots, signatures_at, first_bad_of, first_bad_word, imports_in, slot_count, slot_of, slots_in}
 use Rattle.rtr_sections.specs.Image.{foreign_image_of, if_own, image_of, own_image_of, rtr_checks}
 use Rattle.r2rdump.specs.Text.{entry_line, file_line, header_lines, image_lines, native_line, native_lines, numbered, record_lines, rtr_section_line}
 use Rattle.r2rdump.specs.OnePass.{image_in_one_pass, imports_in_one_pass, native_in_one_pass, text_in_one_pass}
@@ -43,7 +43,7 @@ present-length record_of place i (suc n) e =
 slots_in-length : (bytes : List ℕ) (import : ImportSection) → first_bad_word bytes import ≡ None
     → length (slots_in bytes import) ≡ slot_count import
 unfolding slots_in first_bad_word
-slots_in-length bytes import e = present-length (slot_of bytes import) (λ i. array_at bytes import + 4 * i) 0 (slot_count import) e
+slots_in-length bytes import e = present-length (slot_of bytes import) (λ i. signatures_at bytes import + 4 * i) 0 (slot_count import) e
 
 first_of : (n : ℕ) (own others : List Slot) → length own ≡ n → (take n (own ++ others) ≡ own) × (drop n (own ++ others) ≡ others)
 first_of n own others e = (

@@ -5,7 +5,7 @@ use Rattle.std.proofs.lemmas.Bool.{cases_lt}
 use Rattle.std.proofs.lemmas.List.{get_or_append_left, get_or_push, length-append}
 use Rattle.rtr_sections.specs.declared.imports.ImportSection.{ImportSection}
 use Rattle.rtr_sections.specs.Numbered.{first_bad}
-use Rattle.rtr_sections.specs.Imports.{array_at, bad_word, cells_at, first_bad_word, named_fixup, slot_at, slot_count}
+use Rattle.rtr_sections.specs.Imports.{signatures_at, bad_word, cells_at, first_bad_word, named_fixup, slot_at, slot_count}
 use Rattle.rtr_sections.specs.BadWords.{names_fixup, AreFirstBad, IsFirstBad, IsWithin}
 
 -- ---- the first bad word from a place on
@@ -88,19 +88,19 @@ is_there bytes word cell = same_some (named_fixup bytes word) _
     same_some None f = refl
     same_some (Some x) f = refl
 
-good_word : (bytes : List ℕ) (import : ImportSection) (i : ℕ) → names_fixup bytes (array_at bytes import + 4 * i) ≡ true
+good_word : (bytes : List ℕ) (import : ImportSection) (i : ℕ) → names_fixup bytes (signatures_at bytes import + 4 * i) ≡ true
     → bad_word bytes import i ≡ None
-good_word bytes import i h = rw (is_there bytes (array_at bytes import + 4 * i) (cells_at bytes import + 8 * i), h) refl
+good_word bytes import i h = rw (is_there bytes (signatures_at bytes import + 4 * i) (cells_at bytes import + 8 * i), h) refl
 
-word_is_bad : (bytes : List ℕ) (import : ImportSection) (i : ℕ) → names_fixup bytes (array_at bytes import + 4 * i) ≡ false
-    → bad_word bytes import i ≡ Some (array_at bytes import + 4 * i)
-word_is_bad bytes import i h = rw (is_there bytes (array_at bytes import + 4 * i) (cells_at bytes import + 8 * i), h) refl
+word_is_bad : (bytes : List ℕ) (import : ImportSection) (i : ℕ) → names_fixup bytes (signatures_at bytes import + 4 * i) ≡ false
+    → bad_word bytes import i ≡ Some (signatures_at bytes import + 4 * i)
+word_is_bad bytes import i h = rw (is_there bytes (signatures_at bytes import + 4 * i) (cells_at bytes import + 8 * i), h) refl
 
-found_at : (bytes : List ℕ) (import : ImportSection) (end first : ℕ) → IsFirstBad bytes end (array_at bytes import) first
-    → first < array_at bytes import + 4 * slot_count import → array_at bytes import + 4 * slot_count import ≤ end
+found_at : (bytes : List ℕ) (import : ImportSection) (end first : ℕ) → IsFirstBad bytes end (signatures_at bytes import) first
+    → first < signatures_at bytes import + 4 * slot_count import → signatures_at bytes import + 4 * slot_count import ≤ end
     → first_bad (bad_word bytes import) 0 (slot_count import) ≡ Some first
 found_at bytes import end first is low within =
-    let array = array_at bytes import in
+    let array = signatures_at bytes import in
     let f = is.found (omega arith) in
     let place : first ≡ array + 4 * f.0 = f.1 in
     let bad : names_fixup bytes (array + 4 * f.0) ≡ false = subst (λ p. names_fixup bytes p ≡ false) place f.2 in
@@ -108,14 +108,14 @@ found_at bytes import end first is low within =
     (λ k below. good_word bytes import k (is.passed k (omega arith) (omega arith)))
     (word_is_bad bytes import f.0 bad ∙ ap (λ (t : ℕ). Some t) (sym place))
 
-none_at : (bytes : List ℕ) (import : ImportSection) (end first : ℕ) → IsFirstBad bytes end (array_at bytes import) first
-    → array_at bytes import + 4 * slot_count import ≤ first → array_at bytes import + 4 * slot_count import ≤ end
+none_at : (bytes : List ℕ) (import : ImportSection) (end first : ℕ) → IsFirstBad bytes end (signatures_at bytes import) first
+    → signatures_at bytes import + 4 * slot_count import ≤ first → signatures_at bytes import + 4 * slot_count import ≤ end
     → first_bad (bad_word bytes import) 0 (slot_count import) ≡ None
 none_at bytes import end first is above within =
     first_bad-none (bad_word bytes import) 0 (slot_count import)
     (λ k below. good_word bytes import k (is.passed k (omega arith) (omega arith)))
 
-pub found_in : (bytes : List ℕ) (import : ImportSection) (start end array first : ℕ) → array ≡ array_at bytes import
+pub found_in : (bytes : List ℕ) (import : ImportSection) (start end array first : ℕ) → array ≡ signatures_at bytes import
     → IsWithin bytes start end import
     → IsFirstBad bytes end array first → first < array + 4 * slot_count import → first_bad_word bytes import ≡ Some first
 unfolding first_bad_word
@@ -123,7 +123,7 @@ found_in bytes import start end array first at within is low =
     found_at bytes import end first (subst (λ a. IsFirstBad bytes end a first) at is)
     (subst (λ a. first < a + 4 * slot_count import) at low) within.1
 
-pub none_in : (bytes : List ℕ) (import : ImportSection) (start end array first : ℕ) → array ≡ array_at bytes import
+pub none_in : (bytes : List ℕ) (import : ImportSection) (start end array first : ℕ) → array ≡ signatures_at bytes import
     → IsWithin bytes start end import
     → IsFirstBad bytes end array first → array + 4 * slot_count import ≤ first → first_bad_word bytes import ≡ None
 unfolding first_bad_word

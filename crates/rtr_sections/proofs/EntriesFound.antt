@@ -11,7 +11,7 @@ use Rattle.native_format.specs.Sparse.{Answer, Array, array_at, element_of}
 use Rattle.native_format.specs.SparseBytes.{AreElements, Finds, HoldsElements}
 use Rattle.native_format.specs.SparseBytes as elements
 use Rattle.rtr_sections.specs.declared.entries.EntryPoint.{EntryPoint}
-use Rattle.rtr_sections.specs.Entries.{bytes_in, content_of, cut_of, entry_at, is_linked, unlinked_at}
+use Rattle.rtr_sections.specs.Entries.{bytes_in, content_place, cut_of, entry_at, is_linked, unlinked_at}
 use Rattle.rtr_sections.specs.Numbered.{first_bad, present}
 use Rattle.rtr_sections.specs.Parts.{content_of_entry, element_of_entry, highest_row}
 use Rattle.rtr_sections.specs.Plan.{RowsAscend, SlotsAscend}
@@ -120,7 +120,7 @@ has_entries laws file part entries rows readable h = record {
 -- ---- from an answer on
 
 pub entry_answered : (file : List ℕ) (part : Span) (index : ℕ) (answer : Answer) (o : Option EntryPoint) → Reads file part index answer o
-    → option_and_then (entry_at file part (index + 1)) (content_of answer) ≡ o
+    → option_and_then (entry_at file part (index + 1)) (content_place answer) ≡ o
 entry_answered file part index answer None r = rw r refl
 entry_answered file part index answer (Some e) r = rw r.1 r.2
 
@@ -131,7 +131,7 @@ no_cut file part index answer (Some e) r = rw r.1 refl
 
 pub none_unlinked : (file : List ℕ) (part imports : Span) (functions index : ℕ) (answer : Answer) (o : Option EntryPoint)
     → ((e : EntryPoint) → o ≡ Some e → is_linked file imports functions e ≡ true)
-    → Reads file part index answer o → option_and_then (unlinked_at file part imports functions (index + 1)) (content_of answer) ≡ None
+    → Reads file part index answer o → option_and_then (unlinked_at file part imports functions (index + 1)) (content_place answer) ≡ None
 none_unlinked file part imports functions index answer None linked r = rw r refl
 none_unlinked file part imports functions index answer (Some e) linked r = rw (r.1, r.2, linked e refl) refl
 

@@ -5,7 +5,7 @@ use Rattle.rtr_bytes.specs.declared.fault.Span.{Span}
 use Rattle.native_format.specs.Sparse.{Array, array_at, element_of}
 use Rattle.native_format.proofs.SparseWithin.{array_at-bytes}
 use Rattle.rtr_sections.specs.declared.imports.ImportSection.{ImportSection}
-use Rattle.rtr_sections.specs.Entries.{bytes_in, content_of, entry_at, entry_of}
+use Rattle.rtr_sections.specs.Entries.{bytes_in, content_place, entry_at, entry_of}
 use Rattle.rtr_sections.specs.EntryHeads.{unlinked_head, unlinked_index}
 
 -- ---- the section's array
@@ -22,19 +22,19 @@ whole bytes array is =
 
 -- ---- one index
 
-pub entry_some : (bytes : List ℕ) (part : Span) (a : Array) (i at : ℕ) → content_of (element_of a i) ≡ Some at
+pub entry_some : (bytes : List ℕ) (part : Span) (a : Array) (i at : ℕ) → content_place (element_of a i) ≡ Some at
     → entry_of bytes part a i ≡ entry_at bytes part (i + 1) at
 entry_some bytes part a i at e = rw e refl
 
-pub entry_none : (bytes : List ℕ) (part : Span) (a : Array) (i : ℕ) → content_of (element_of a i) ≡ None → entry_of bytes part a i ≡ None
+pub entry_none : (bytes : List ℕ) (part : Span) (a : Array) (i : ℕ) → content_place (element_of a i) ≡ None → entry_of bytes part a i ≡ None
 entry_none bytes part a i e = rw e refl
 
 pub place_some : (bytes : List ℕ) (part : Span) (imports : List ImportSection) (functions : ℕ) (a : Array) (i at : ℕ)
-    → content_of (element_of a i) ≡ Some at
+    → content_place (element_of a i) ≡ Some at
     → unlinked_index bytes part imports functions a i ≡ unlinked_head bytes part imports functions at
 place_some bytes part imports functions a i at e = rw e refl
 
 pub place_none : (bytes : List ℕ) (part : Span) (imports : List ImportSection) (functions : ℕ) (a : Array) (i : ℕ)
-    → content_of (element_of a i) ≡ None
+    → content_place (element_of a i) ≡ None
     → unlinked_index bytes part imports functions a i ≡ None
 place_none bytes part imports functions a i e = rw e refl

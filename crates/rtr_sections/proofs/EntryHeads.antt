@@ -14,7 +14,7 @@ use Rattle.rtr_sections.specs.declared.entries.EntryPoint.{EntryPoint}
 use Rattle.rtr_sections.specs.declared.imports.ImportSection.{ImportSection}
 use Rattle.rtr_sections.specs.Numbered.{first_bad}
 use Rattle.rtr_sections.specs.Imports.{import_at, import_count, imports_in, slot_count}
-use Rattle.rtr_sections.specs.Entries.{first_unlinked_of as unlinked_by_row, array_in, bytes_in, content_of, entry_at, entry_of_id, entry_point, first_unlinked, fixups_of_id, function_of_id, is_linked, list_place, names_slot, unlinked_at, unlinked_place}
+use Rattle.rtr_sections.specs.Entries.{first_unlinked_of as unlinked_by_row, array_in, bytes_in, content_place, entry_at, entry_of_id, entry_point, first_unlinked, fixups_of_id, function_of_id, is_linked, list_place, names_slot, unlinked_at, unlinked_place}
 use Rattle.rtr_sections.specs.EntryHeads.{first_unlinked_of as unlinked_by_head, entry_of_head, exists_in, first_unlinked_in, head, head_at, head_of_id, is_linked_head, links_at, unlinked_head, unlinked_index}
 use Rattle.rtr_sections.proofs.Listed.{record_past, record_there}
 
@@ -106,7 +106,7 @@ unlinked_is bytes part imports functions row at =
 
 index_is : (bytes : List ℕ) (part imports : Span) (functions : ℕ) (array : Array) (index : ℕ)
     → unlinked_place bytes part imports functions array index ≡ unlinked_index bytes part (imports_in bytes imports) functions array index
-index_is bytes part imports functions array index = go (content_of (element_of array index))
+index_is bytes part imports functions array index = go (content_place (element_of array index))
   where
     go : (at : Option ℕ)
         → option_and_then (unlinked_at bytes part imports functions (index + 1)) at ≡ option_and_then

@@ -11,7 +11,7 @@ use Rattle.pe_image.specs.Headers.{place_of}
 use Rattle.rtr_sections.specs.declared.image.Image.{Image}
 use Rattle.rtr_sections.specs.declared.imports.ImportSection.{ImportSection}
 use Rattle.rtr_sections.specs.Header.{part_of}
-use Rattle.rtr_sections.specs.Imports.{array_place, cells_are_placed, follows, foreign_import, has_own_form, import_at, import_count, imports_in, out_of_order, slot_count, unplaced_cells}
+use Rattle.rtr_sections.specs.Imports.{signatures_place, cells_are_placed, follows, foreign_import, has_own_form, import_at, import_count, imports_in, out_of_order, slot_count, unplaced_cells}
 use Rattle.rtr_sections.specs.Parts.{import_bytes, parts_of, placed_imports, part_bytes, written_imports}
 use Rattle.rtr_sections.specs.Plan.{HasWrittenForm, IsPlan}
 use Rattle.rtr_sections.specs.Written.{Carries}
@@ -206,7 +206,7 @@ unfolding unplaced_cells has_cells
 cells_placed file plan at rows p f c = none_of file plan at rows (has_cells file) (cells_are_placed file) p f c (λ place. refl) (cells_all file plan at rows (room plan at p f) c)
 
 own_form : List ℕ → ImportSection → Bool
-own_form file i = i.kind == 0 && i.entry_size == 8 && i.size % 8 == 0 && i.auxiliary == 0 && is_some (array_place file i)
+own_form file i = i.kind == 0 && i.entry_size == 8 && i.size % 8 == 0 && i.auxiliary == 0 && is_some (signatures_place file i)
 
 all_five : (kind entry_size rest auxiliary : ℕ) (found : Bool) → kind ≡ 0 → entry_size ≡ 8 → rest ≡ 0 → auxiliary ≡ 0 → found ≡ true
     → (kind == 0 && entry_size == 8 && rest == 0 && auxiliary == 0 && found) ≡ true

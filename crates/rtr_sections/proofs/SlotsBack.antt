@@ -16,7 +16,7 @@ use Rattle.rtr_sections.specs.declared.imports.ImportSection.{ImportSection}
 use Rattle.rtr_sections.specs.declared.slots.Slot.{Slot}
 use Rattle.fixup_sigs.specs.Reading.{fixup_at}
 use Rattle.rtr_sections.specs.Header.{part_of}
-use Rattle.rtr_sections.specs.Imports.{all_slots, array_at, bad_word, cells_at, first_bad_of, first_bad_word, imports_in, slot_at, slot_count, slot_of, slots_in}
+use Rattle.rtr_sections.specs.Imports.{all_slots, signatures_at, bad_word, cells_at, first_bad_of, first_bad_word, imports_in, slot_at, slot_count, slot_of, slots_in}
 use Rattle.rtr_sections.specs.Numbered.{first_bad, present}
 use Rattle.rtr_sections.specs.Parts.{cell_bytes, parts_of, placed_imports, signature_bytes_of, signature_rvas, words, written_imports}
 use Rattle.rtr_sections.specs.Plan.{IsPlan}
@@ -120,17 +120,17 @@ found_later file array cell (suc n) (s ∷ ss) (found, h) within =
 
 -- where a section with slots has its array and its cells
 record IsAt (file : List ℕ) (i : ImportSection) (array cell : ℕ) : Type 0 where
-  array_is : 0 < slot_count i → array_at file i ≡ array
+  array_is : 0 < slot_count i → signatures_at file i ≡ array
   cells_are : 0 < slot_count i → cells_at file i ≡ cell
 
-present_at : (file : List ℕ) (i : ImportSection) (n array cell : ℕ) → (0 < n → array_at file i ≡ array) → (0 < n → cells_at file i ≡ cell)
+present_at : (file : List ℕ) (i : ImportSection) (n array cell : ℕ) → (0 < n → signatures_at file i ≡ array) → (0 < n → cells_at file i ≡ cell)
     → present (slot_of file i) 0 n ≡ present (λ j. slot_at file (array + 4 * j) (cell + 8 * j)) 0 n
 present_at file i zero array cell a c = refl
 present_at file i (suc n) array cell a c =
     let P : ℕ → ℕ → List Slot = λ x y. present (λ j. slot_at file (x + 4 * j) (y + 8 * j)) 0 (suc n) in
     ap (λ (t : ℕ). P t (cells_at file i)) (a (omega arith)) ∙ ap (λ (t : ℕ). P array t) (c (omega arith))
 
-bad_at : (file : List ℕ) (i : ImportSection) (n array cell : ℕ) → (0 < n → array_at file i ≡ array) → (0 < n → cells_at file i ≡ cell)
+bad_at : (file : List ℕ) (i : ImportSection) (n array cell : ℕ) → (0 < n → signatures_at file i ≡ array) → (0 < n → cells_at file i ≡ cell)
     → first_bad (bad_word file i) 0 n ≡ first_bad (λ j. if is_some (slot_at file (array + 4 * j) (cell + 8 * j)) then None else Some (array + 4 * j)) 0 n
 bad_at file i zero array cell a c = refl
 bad_at file i (suc n) array cell a c =

@@ -7,14 +7,14 @@ use Rattle.rtr_bytes.specs.declared.fault.ReadRefusal.TheVariants as refusals
 use Rattle.rtr_bytes.specs.Checks.{fault_or, RefusedBy}
 use Rattle.rtr_sections.specs.declared.imports.ImportSection.{ImportSection}
 use Rattle.rtr_sections.specs.declared.slots.Slot.{Slot}
-use Rattle.rtr_sections.specs.Imports.{all_slots, array_at, cells_at, bad_word, first_bad_of, first_bad_word, slot_at, slot_of, slots_in}
+use Rattle.rtr_sections.specs.Imports.{all_slots, signatures_at, cells_at, bad_word, first_bad_of, first_bad_word, slot_at, slot_of, slots_in}
 
 -- what was read at two places that are the slot's
-pub slot_read : (bytes : List ℕ) (import : ImportSection) (array cells i : ℕ) (answer : Option Slot) → array ≡ array_at bytes import
+pub slot_read : (bytes : List ℕ) (import : ImportSection) (array cells i : ℕ) (answer : Option Slot) → array ≡ signatures_at bytes import
     → cells ≡ cells_at bytes import → answer ≡ slot_at bytes (array + 4 * i) (cells + 8 * i) → slot_of bytes import i ≡ answer
 slot_read bytes import array cells i answer a b e =
     sym (e ∙ ap (λ (t : ℕ). slot_at bytes (t + 4 * i) (cells + 8 * i)) a
-    ∙ ap (λ (t : ℕ). slot_at bytes (array_at bytes import + 4 * i) (t + 8 * i)) b)
+    ∙ ap (λ (t : ℕ). slot_at bytes (signatures_at bytes import + 4 * i) (t + 8 * i)) b)
 
 -- ---- one step over the import records, of which i are behind
 

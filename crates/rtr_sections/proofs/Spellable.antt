@@ -22,7 +22,7 @@ use Rattle.rtr_sections.specs.declared.image.Image.{Image}
 use Rattle.fixup_sigs.specs.Reading.{fixup_at}
 use Rattle.rtr_sections.specs.Header.{part_of}
 use Rattle.rtr_sections.specs.Numbered.{present}
-use Rattle.rtr_sections.specs.Imports.{all_slots, array_at, cells_at, imports_in, slot_at, slot_count, slot_of, slots_in}
+use Rattle.rtr_sections.specs.Imports.{all_slots, signatures_at, cells_at, imports_in, slot_at, slot_count, slot_of, slots_in}
 use Rattle.rtr_sections.specs.Image.{own_image_of}
 use Rattle.fixup_sigs.proofs.ReadingLaws.{fixup_at-spelled}
 
@@ -83,7 +83,7 @@ all_present P f i (suc n) each = All-append P (option_to_list (f i)) (present f 
 section_spellable : (bytes : List ℕ) (import : ImportSection) → All HasSpelling (slots_in bytes import)
 unfolding slots_in
 section_spellable bytes import =
-    all_present HasSpelling (slot_of bytes import) 0 (slot_count import) (λ k slot e. slot_spellable bytes (array_at bytes import + 4 * k) (cells_at bytes import + 8 * k) slot e)
+    all_present HasSpelling (slot_of bytes import) 0 (slot_count import) (λ k slot e. slot_spellable bytes (signatures_at bytes import + 4 * k) (cells_at bytes import + 8 * k) slot e)
 
 slots_spellable : (bytes : List ℕ) (imports : List ImportSection) → All HasSpelling (all_slots bytes imports)
 slots_spellable bytes [] = All-nil HasSpelling

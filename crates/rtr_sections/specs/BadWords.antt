@@ -1,7 +1,7 @@
 -- The bad words of a range of the file by their places, which give the first of any array of signatures in it.
 use Rattle.std.specs.Prelude.{◌≡◌, ℕ, suc, ◌+◌, ◌-◌, ◌*◌, ◌<◌, ◌≤◌, List, length, slice_index, Bool, true, false, is_some}
 use Rattle.rtr_sections.specs.declared.imports.ImportSection.{ImportSection}
-use Rattle.rtr_sections.specs.Imports.{array_at, named_fixup, slot_count}
+use Rattle.rtr_sections.specs.Imports.{signatures_at, named_fixup, slot_count}
 
 -- whether a fixup begins at the RVA that the word at a place says
 abbrev pub names_fixup : List ℕ → ℕ → Bool
@@ -18,4 +18,4 @@ AreFirstBad bytes end firsts = (i : ℕ) → i < length firsts → i < end → I
 
 -- a record's array of signatures is in a range
 abbrev pub IsWithin : List ℕ → ℕ → ℕ → ImportSection → Type 0
-IsWithin bytes start end import = (start ≤ array_at bytes import) × (array_at bytes import + 4 * slot_count import ≤ end)
+IsWithin bytes start end import = (start ≤ signatures_at bytes import) × (signatures_at bytes import + 4 * slot_count import ≤ end)

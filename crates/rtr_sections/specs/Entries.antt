@@ -59,9 +59,9 @@ is_linked bytes imports functions entry = nat_lt entry.function functions && lis
 
 -- ---- all of them
 
-abbrev pub content_of : Answer → Option ℕ
-content_of (Ok place) = place
-content_of (Err fault) = None
+abbrev pub content_place : Answer → Option ℕ
+content_place (Ok place) = place
+content_place (Err fault) = None
 
 abbrev pub cut_of : Answer → Option ℕ
 cut_of (Ok place) = None
@@ -69,7 +69,7 @@ cut_of (Err fault) = Some fault.place
 
 -- the entry of an index belongs to the MethodDef row one above it
 abbrev pub entry_of : List ℕ → Span → Array → ℕ → Option EntryPoint
-entry_of bytes part array index = option_and_then (entry_at bytes part (index + 1)) (content_of (element_of array index))
+entry_of bytes part array index = option_and_then (entry_at bytes part (index + 1)) (content_place (element_of array index))
 
 abbrev pub entries_of : List ℕ → Span → Option Array → List EntryPoint
 entries_of bytes part None = []
@@ -107,7 +107,7 @@ unlinked_at bytes part imports functions row at =
 
 abbrev pub unlinked_place : List ℕ → Span → Span → ℕ → Array → ℕ → Option ℕ
 unlinked_place bytes part imports functions array index =
-    option_and_then (unlinked_at bytes part imports functions (index + 1)) (content_of (element_of array index))
+    option_and_then (unlinked_at bytes part imports functions (index + 1)) (content_place (element_of array index))
 
 abbrev pub first_unlinked_of : List ℕ → Span → Span → ℕ → Option Array → Option ℕ
 first_unlinked_of bytes part imports functions None = None

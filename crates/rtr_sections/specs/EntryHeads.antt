@@ -12,7 +12,7 @@ use Rattle.rtr_sections.specs.declared.entries.EntryPoint.{EntryPoint}
 use Rattle.rtr_sections.specs.declared.imports.ImportSection.{ImportSection}
 use Rattle.rtr_sections.specs.Numbered.{first_bad}
 use Rattle.rtr_sections.specs.Imports.{slot_count}
-use Rattle.rtr_sections.specs.Entries.{array_in, bytes_in, content_of, function_of_id, list_place}
+use Rattle.rtr_sections.specs.Entries.{array_in, bytes_in, content_place, function_of_id, list_place}
 
 -- ---- the head
 
@@ -58,7 +58,7 @@ unlinked_head bytes part imports functions at = if is_linked_at bytes part impor
 
 abbrev pub unlinked_index : List ℕ → Span → List ImportSection → ℕ → Array → ℕ → Option ℕ
 unlinked_index bytes part imports functions array index =
-    option_and_then (unlinked_head bytes part imports functions) (content_of (element_of array index))
+    option_and_then (unlinked_head bytes part imports functions) (content_place (element_of array index))
 
 abbrev pub first_unlinked_of : List ℕ → Span → List ImportSection → ℕ → Option Array → Option ℕ
 first_unlinked_of bytes part imports functions None = None

@@ -49,11 +49,11 @@ abbrev pub slot_count : ImportSection → ℕ
 slot_count import = import.size / 8
 
 -- Signatures is the RVA of one RVA of 4 bytes for each slot
-abbrev pub array_place : List ℕ → ImportSection → Option ℕ
-array_place bytes import = place_of bytes import.signatures (4 * slot_count import)
+abbrev pub signatures_place : List ℕ → ImportSection → Option ℕ
+signatures_place bytes import = place_of bytes import.signatures (4 * slot_count import)
 
-abbrev pub array_at : List ℕ → ImportSection → ℕ
-array_at bytes import = unwrap_or (array_place bytes import) 0
+abbrev pub signatures_at : List ℕ → ImportSection → ℕ
+signatures_at bytes import = unwrap_or (signatures_place bytes import) 0
 
 abbrev pub cells_at : List ℕ → ImportSection → ℕ
 cells_at bytes import = unwrap_or (place_of bytes import.rva import.size) 0
@@ -61,7 +61,7 @@ cells_at bytes import = unwrap_or (place_of bytes import.rva import.size) 0
 -- a record as this compiler writes them, whose array is in a section of the file
 abbrev pub is_own_import : List ℕ → ImportSection → Bool
 is_own_import bytes import =
-    import.kind == 0 && import.entry_size == 8 && import.size % 8 == 0 && import.auxiliary == 0 && is_some (array_place bytes import)
+    import.kind == 0 && import.entry_size == 8 && import.size % 8 == 0 && import.auxiliary == 0 && is_some (signatures_place bytes import)
 
 abbrev pub has_own_form : List ℕ → ℕ → Bool
 has_own_form bytes at = is_own_import bytes (import_at bytes at)
@@ -72,23 +72,23 @@ foreign_import bytes part = first_record (has_own_form bytes) part.start 20 (imp
 
 -- the fixup whose signature an array's word names: none where no fixup begins at that RVA, and then the word is bad
 abbrev pub named_fixup : List ℕ → ℕ → Option Fixup
-named_fixup bytes word = option_and_then (fixup_at bytes) (place_of bytes (u32_of bytes word) 1)
+named_fixup bytes at = option_and_then (fixup_at bytes) (place_of bytes (u32_of bytes at) 1)
 
 -- the slot of an array's word, whose cell stands at a place
 unfoldable pub slot_at : List ℕ → ℕ → ℕ → Option Slot
-slot_at bytes word cell =
-    option_map (λ fixup. record { fixup = fixup; word = unwrap_or (field_at 8 bytes cell) 0 }) (named_fixup bytes word)
+slot_at bytes at cell =
+    option_map (λ fixup. record { fixup = fixup; word = unwrap_or (field_at 8 bytes cell) 0 }) (named_fixup bytes at)
 
 -- slot i of a section
 abbrev pub slot_of : List ℕ → ImportSection → ℕ → Option Slot
-slot_of bytes import i = slot_at bytes (array_at bytes import + 4 * i) (cells_at bytes import + 8 * i)
+slot_of bytes import i = slot_at bytes (signatures_at bytes import + 4 * i) (cells_at bytes import + 8 * i)
 
 unfoldable pub slots_in : List ℕ → ImportSection → List Slot
 slots_in bytes import = present (slot_of bytes import) 0 (slot_count import)
 
 -- the array's word of a slot that has no fixup
 abbrev pub bad_word : List ℕ → ImportSection → ℕ → Option ℕ
-bad_word bytes import i = if is_some (slot_of bytes import i) then None else Some (array_at bytes import + 4 * i)
+bad_word bytes import i = if is_some (slot_of bytes import i) then None else Some (signatures_at bytes import + 4 * i)
 
 -- the first such word of a section, and of all sections in their order
 unfoldable pub first_bad_word : List ℕ → ImportSection → Option ℕ

@@ -3,7 +3,7 @@
 
 ghost use Rattle.std.specs.Prelude.{None, ◌≡◌, ◌+◌, ◌-◌, ◌*◌, ◌≤◌, ◌<◌, ℕ, List, All, length, IfErr, IfOk, OnOk};
 ghost use Rattle.rtr_bytes.specs.Checks.{fault_or, RefusedBy};
-ghost use Rattle.rtr_sections.specs.Imports.{array_at, first_bad_of, first_bad_word, slot_count};
+ghost use Rattle.rtr_sections.specs.Imports.{signatures_at, first_bad_of, first_bad_word, slot_count};
 ghost use Rattle.rtr_sections.specs.BadWords.{AreFirstBad, IsFirstBad, IsWithin, names_fixup};
 
 use crate::check::Check;

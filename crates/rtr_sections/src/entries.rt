@@ -5,7 +5,7 @@ ghost use Rattle.std.specs.Option.{option_and_then};
 ghost use Rattle.rtr_bytes.specs.Checks.{fault_or, RefusedBy};
 ghost use Rattle.native_format.specs.Sparse.{array_at, element_of};
 ghost use Rattle.rtr_sections.specs.Numbered.{first_bad, present};
-ghost use Rattle.rtr_sections.specs.Entries.{array_in, bad_array, bytes_in, content_of, cut_place, entries_in, entry_of, first_cut, function_of_id, list_place};
+ghost use Rattle.rtr_sections.specs.Entries.{array_in, bad_array, bytes_in, content_place, cut_place, entries_in, entry_of, first_cut, function_of_id, list_place};
 ghost use Rattle.rtr_sections.specs.EntryHeads.{entry_of_head, first_unlinked_in, head_at, head_of_id, is_linked_at, is_linked_head, slots_of_head, unlinked_index};
 
 use crate::check::Check;
@@ -166,7 +166,7 @@ fn check_paths(array: &SparseArray<'_>, part: Span) -> Result<(), Fault>
 /// The place of an index's content.
 fn content_at(array: &SparseArray<'_>, index: u32) -> Option<u32>
     requires whole { array_at array.now.bytes 0 ≡ Some array.now }
-    ensures place { result ≡ content_of (element_of array.now index) }
+    ensures place { result ≡ content_place (element_of array.now index) }
     ensures within { IfSome result (λ at. at ≤ length array.now.bytes) }
 {
     match array.get(index) {

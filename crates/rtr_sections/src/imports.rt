@@ -3,7 +3,7 @@
 ghost use Rattle.std.specs.Prelude.{None, ◌≡◌, ◌+◌, ◌*◌, ◌<◌, ◌^◌, length, IfErr, IfOk, IfSome, OnOk, Some};
 ghost use Rattle.rtr_bytes.specs.Checks.{fault_or, RefusedBy};
 ghost use Rattle.rtr_sections.specs.Listed.{first_failing, first_overlap};
-ghost use Rattle.rtr_sections.specs.Imports.{array_at, array_place, cells_at, has_placed_cells, import_at, imports_in, is_own_import, slot_count, unplaced_cells};
+ghost use Rattle.rtr_sections.specs.Imports.{signatures_at, signatures_place, cells_at, has_placed_cells, import_at, imports_in, is_own_import, slot_count, unplaced_cells};
 
 use crate::check::Check;
 use crate::file::File;
@@ -71,7 +71,7 @@ impl ImportSection {
 
     /// The place of its array of signatures, `None` where that isn't in a section of the file.
     fn signatures_place(&self, file: &File<'_>) -> Option<u32>
-        ensures place { result ≡ array_place file.now self.now }
+        ensures place { result ≡ signatures_place file.now self.now }
         ensures few { slot_count self.now < 2 ^ 29 }
         ensures in_reach { IfSome result (λ at. at + 4 * slot_count self.now < 2 ^ 32) }
     {
@@ -80,7 +80,7 @@ impl ImportSection {
 
     /// The place of its array of signatures. Of no meaning where that isn't in a section of the file.
     pub(crate) fn signatures_at(&self, file: &File<'_>) -> u32
-        ensures place { result ≡ array_at file.now self.now }
+        ensures place { result ≡ signatures_at file.now self.now }
         ensures in_reach { result + 4 * slot_count self.now < 2 ^ 32 }
     {
         match self.signatures_place(file) {

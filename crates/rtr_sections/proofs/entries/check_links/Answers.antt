@@ -1,6 +1,6 @@
 use Rattle.std.proofs.Common.{◌≡◌, ◌+◌, ◌<◌, ◌∙◌, Bool, true, cond, Some, None, sym, ap, arith}
 use Rattle.native_format.specs.Sparse.{element_of}
-use Rattle.rtr_sections.specs.Entries.{content_of}
+use Rattle.rtr_sections.specs.Entries.{content_place}
 use Rattle.rtr_sections.specs.EntryHeads.{Linking, is_linked_at, unlinked_index}
 use Rattle.rtr_sections.proofs.Numbered.{first_bad-step}
 use Rattle.rtr_sections.proofs.EntriesRead.{place_some, place_none}
@@ -21,7 +21,7 @@ loop-index-preserved c =
     elim c.match-content_at.branch [
       | in-Some+in_ok-ensure w ↦
           let at = w.in-Some.at in
-          let content : content_of (element_of a i) ≡ Some at = sym c.content_at.ensures.place ∙ w.in-Some.is in
+          let content : content_place (element_of a i) ≡ Some at = sym c.content_at.ensures.place ∙ w.in-Some.is in
           let linked : is_linked_at bytes part imports functions at ≡ true =
           ap (λ (l : Linking). is_linked_at bytes part l.imports functions at) (sym same) ∙ sym w.is_linked_at-linked.ensures.linked
           ∙ w.in_ok-ensure.ensures.holds in
@@ -32,7 +32,7 @@ loop-index-preserved c =
             same = w.lists-is ∙ w.is_linked_at-linked.ensures.lists ∙ same;
           }
       | in_default w ↦
-          let content : content_of (element_of a i) ≡ None = sym c.content_at.ensures.place ∙ w.in_default.is in
+          let content : content_place (element_of a i) ≡ None = sym c.content_at.ensures.place ∙ w.in_default.is in
           record {
             checked = sym (first_bad-step bad a.count i below (place_none bytes part imports functions a i content))
                 ∙ c.loop-index.invariant.checked;

@@ -2,7 +2,7 @@ use Rattle.std.proofs.Common.{◌≡◌, ◌≤◌, ◌+◌, ◌*◌, All, get_o
 use Rattle.std.proofs.lemmas.List.{take_all}
 use Rattle.std.proofs.lemmas.List.Elements.{All-more}
 use Rattle.rtr_sections.specs.declared.imports.ImportSection.{ImportSection}
-use Rattle.rtr_sections.specs.Imports.{array_at, slot_count}
+use Rattle.rtr_sections.specs.Imports.{signatures_at, slot_count}
 use Rattle.rtr_sections.specs.BadWords.{IsWithin}
 use Rattle.rtr_sections.proofs.BadWords.{wider}
 use Rattle.rtr_sections.proofs.bad_words.Range.of.Goals as goal
@@ -17,8 +17,8 @@ loop-import-preserved c =
     let end = c.max-end.result in
     let lower : start ≤ c.loop-import.start = omega (arith, c.min-start.ensures) in
     let higher : c.loop-import.end ≤ end = omega (arith, c.max-end.ensures) in
-    let from : start ≤ array_at bytes (get_or imports i d) = omega (arith, c.min-start.ensures, c.signatures_at-array.ensures.place) in
-    let to : array_at bytes (get_or imports i d) + 4 * slot_count (get_or imports i d) ≤ end =
+    let from : start ≤ signatures_at bytes (get_or imports i d) = omega (arith, c.min-start.ensures, c.signatures_at-array.ensures.place) in
+    let to : signatures_at bytes (get_or imports i d) + 4 * slot_count (get_or imports i d) ≤ end =
     omega (arith, c.max-end.ensures, c.signatures_at-array.ensures.place, c.slot_count.ensures.count) in
     All-more (IsWithin bytes start end) imports i d c.loop-import-test.true
     (λ k e below. wider bytes c.loop-import.start c.loop-import.end start end (get_or (take i imports) k e) lower higher
