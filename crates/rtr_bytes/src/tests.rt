@@ -37,10 +37,10 @@ fn sequence_of_a_vector(rt: HostRuntime) -> Result<(), Fail> {
     assert_eq!(rt; sequence.as_slice(), [3, 5].as_slice());
     assert_eq!(rt; sequence.len(), 2);
     assert!(rt; !sequence.is_empty());
-    let mut sum = 0u64;
+    let mut folded = 0u32;
     for item in &sequence {
-        sum += u64::from(*item);
+        folded = folded.wrapping_mul(10).wrapping_add(*item);
     }
-    assert_eq!(rt; sum, 8);
+    assert_eq!(rt; folded, 35);
     Ok(())
 }
