@@ -1,7 +1,7 @@
 //! Compressed unsigned integers (ECMA-335 II.23.2).
 
 ghost use Rattle.std.specs.Prelude.{◌≡◌, ◌≤◌, ◌<◌, ◌^◌, ◌+◌, ◌++◌, ℕ, List, Some, length, IfSome, OnOk, OnErr};
-ghost use Rattle.rtr_bytes.specs.Compressed.{IsCompressed, compressed_bytes};
+ghost use Rattle.rtr_bytes.specs.Compressed.{IsCompressed, compressed_at, compressed_bytes};
 ghost use Rattle.rtr_bytes.specs.Spelling.{BeginsAt, NoneBeginsAnother};
 
 use crate::fault::NoMemory;
@@ -10,6 +10,7 @@ use byteorder::{BigEndian, ByteOrder};
 /// The compressed unsigned integer at a file offset, and the offset after it. A longer spelling than the
 /// number needs is read too. `None` exactly where none is spelled there: the bytes are cut, or the first one
 /// has the top bits 111.
+#[tactic(auto, unfolding(crate::specs::Compressed::compressed_at))]
 pub fn compressed_at(bytes: &[u8], at: u32) -> Option<(u32, u32)>
     requires { length bytes.now ≤ 2 ^ 31 }
     // The number is spelled by exactly the bytes up to the next place.
@@ -17,6 +18,8 @@ pub fn compressed_at(bytes: &[u8], at: u32) -> Option<(u32, u32)>
     // What is spelled there is read.
     ensures only { (n next : ℕ) → BeginsAt IsCompressed bytes.now at n next → result ≡ Some (n, next) }
     ensures bounded { IfSome result (λ found. found.0 < 2 ^ 29) }
+    // The same, as a function of the bytes.
+    ensures exact { result ≡ compressed_at bytes.now at }
 {
     let front = bytes.get(at as usize..)?;
     match front {
