@@ -1,0 +1,6 @@
+pub mod Schema
+pub mod Streams
+pub mod Tables
+pub mod Heaps
+pub mod Checks
+pub mod Steps
