@@ -7,6 +7,10 @@ use Rattle.metadata.specs.declared.header.TablesHeader.{TablesHeader}
 use Rattle.metadata.specs.Streams.{blobs_name, end_of, guids_name, stream_of, strings_name, tables_name, user_strings_name}
 use Rattle.metadata.specs.Tables.{heap_sizes_of, row_count, rows_place}
 
+-- a range is empty or in some bytes
+abbrev pub IsInside : Span → ℕ → Type 0
+IsInside span length = 0 < span.len → end_of span ≤ length
+
 -- the streams of the metadata at a range
 pub record AreStreams (bytes : List ℕ) (span : Span) (streams : Streams) : Type 0 where
   pub tables : streams.tables ≡ stream_of bytes span tables_name

@@ -3,6 +3,7 @@
 
 mod check;
 mod header;
+mod root;
 mod schema;
 mod streams;
 
