@@ -1,10 +1,10 @@
 -- The metadata root and its stream headers (ECMA-335 II.24.2.1 and II.24.2.2). The metadata is a range of the file's bytes.
 use Rattle.std.specs.Prelude.{ℕ, zero, suc, ◌+◌, ◌-◌, ◌*◌, ◌/◌, ◌==◌, ◌&&◌, Bool, List, [], ◌∷◌, length, take, drop, min, find, position, Option, Some, None, nat_le, if◌then◌else◌}
 use Rattle.std.specs.Option.{option_map, option_map_or, option_and_then}
-use Rattle.std.specs.List.{list_any}
 use Rattle.std.specs.Str.{bytes_eq}
 use Rattle.rtr_bytes.specs.declared.fault.Span.{Span}
 use Rattle.rtr_bytes.specs.Field.{u16_of, u32_of}
+use Rattle.metadata.specs.Names.{is_taken}
 
 abbrev pub end_of : Span → ℕ
 end_of span = span.start + span.len
@@ -72,7 +72,7 @@ is_inside span h = nat_le (h.offset + h.size) span.len
 -- the place of the first header whose name an earlier one has, where some names are taken
 unfoldable pub first_repeated : List (List ℕ) → List StreamHeader → Option ℕ
 first_repeated taken [] = None
-first_repeated taken (h ∷ hs) = if list_any (bytes_eq h.name) taken then Some h.at else first_repeated (h.name ∷ taken) hs
+first_repeated taken (h ∷ hs) = if is_taken taken h.name then Some h.at else first_repeated (h.name ∷ taken) hs
 
 -- ---- streams by name
 

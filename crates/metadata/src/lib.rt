@@ -3,6 +3,7 @@
 
 mod check;
 mod header;
+mod names;
 mod root;
 mod schema;
 mod streams;
