@@ -9,7 +9,7 @@ use Rattle.metadata.specs.declared.schema.Table.TheVariants as tables
 use Rattle.metadata.specs.declared.schema.ColumnKind.{ColumnKind}
 use Rattle.metadata.specs.declared.schema.ColumnKind.TheVariants as columns
 use Rattle.metadata.specs.Schema.{columns_of, table_number}
-use Rattle.metadata.specs.Streams.{end_of, first_cut, first_repeated, header_named, headers_at, headers_in, is_inside, stream_count, stream_of, tables_name, version_length}
+use Rattle.metadata.specs.Streams.{end_of, first_cut, first_outside, first_repeated, header_named, headers_at, headers_in, stream_count, stream_of, tables_name, version_length}
 use Rattle.metadata.specs.Tables.{Layout, column_at, count_at, has_table, heap_sizes_of, layout_of, number_of, row_count, rows_of, rows_place, table_size, valid_of}
 use Rattle.metadata.specs.Heaps.{is_valid}
 
@@ -27,7 +27,7 @@ root_checks span =
 abbrev pub stream_checks : Span → List Check
 stream_checks span =
     check 32 (λ bytes. first_cut bytes (end_of span) (headers_at bytes span.start) (stream_count bytes span.start))
-    ∷ check 33 (λ bytes. option_map (λ h. h.at) (find (λ h. not (is_inside span h)) (headers_in bytes span)))
+    ∷ check 33 (λ bytes. first_outside span (headers_in bytes span))
     ∷ check 34 (λ bytes. first_repeated [] (headers_in bytes span))
     ∷ check 35 (λ bytes. holds_or (is_some (header_named tables_name (headers_in bytes span))) span.start)
     ∷ []

@@ -1,5 +1,5 @@
 -- The metadata root and its stream headers (ECMA-335 II.24.2.1 and II.24.2.2). The metadata is a range of the file's bytes.
-use Rattle.std.specs.Prelude.{ℕ, zero, suc, ◌+◌, ◌-◌, ◌*◌, ◌/◌, ◌==◌, ◌&&◌, Bool, List, [], ◌∷◌, length, take, drop, min, find, position, Option, Some, None, nat_le, if◌then◌else◌}
+use Rattle.std.specs.Prelude.{ℕ, zero, suc, ◌+◌, ◌-◌, ◌*◌, ◌/◌, ◌==◌, ◌&&◌, not, Bool, List, [], ◌∷◌, length, take, drop, min, find, position, Option, Some, None, nat_le, if◌then◌else◌}
 use Rattle.std.specs.Option.{option_map, option_map_or, option_and_then}
 use Rattle.std.specs.Str.{bytes_eq}
 use Rattle.rtr_bytes.specs.declared.fault.Span.{Span}
@@ -69,6 +69,9 @@ headers_in bytes span = headers_from bytes (end_of span) (headers_at bytes span.
 abbrev pub is_inside : Span → StreamHeader → Bool
 is_inside span h = nat_le (h.offset + h.size) span.len
 
+abbrev pub first_outside : Span → List StreamHeader → Option ℕ
+first_outside span hs = option_map (λ h. h.at) (find (λ h. not (is_inside span h)) hs)
+
 -- the place of the first header whose name an earlier one has, where some names are taken
 unfoldable pub first_repeated : List (List ℕ) → List StreamHeader → Option ℕ
 first_repeated taken [] = None
@@ -76,7 +79,7 @@ first_repeated taken (h ∷ hs) = if is_taken taken h.name then Some h.at else f
 
 -- ---- streams by name
 
-unfoldable pub header_named : List ℕ → List StreamHeader → Option StreamHeader
+abbrev pub header_named : List ℕ → List StreamHeader → Option StreamHeader
 header_named name hs = find (λ h. bytes_eq h.name name) hs
 
 -- where a stream is in the file; one that is missing is empty
