@@ -1,11 +1,11 @@
 //! The streams of metadata (ECMA-335 II.24.2.2).
 
-ghost use Rattle.std.specs.Prelude.{◌≡◌, ◌+◌, ◌≤◌, ◌<◌, ◌^◌, [], length, None, Some, ◌-◌, ◌==◌, not, min, take, drop, position, All, IfErr, IfOk, IfSome, OnOk};
+ghost use Rattle.std.specs.Prelude.{◌≡◌, ◌+◌, ◌≤◌, ◌<◌, ◌^◌, [], length, None, Some, ◌-◌, ◌==◌, not, min, take, drop, position, All, IfErr, IfOk, IfSome, OnOk, is_some, true};
 ghost use Rattle.std.specs.Option.{option_copied};
 ghost use Rattle.std.specs.Str.{bytes_eq};
 ghost use Rattle.rtr_bytes.specs.Checks.{fault_or, first_fault, RefusedBy};
 ghost use Rattle.metadata.specs.Checks.{stream_checks};
-ghost use Rattle.metadata.specs.Streams.{end_of, first_cut, first_outside, first_repeated, header_at, header_named, header_of, headers_at, headers_from, headers_in, is_inside, next_header, span_of, stream_count};
+ghost use Rattle.metadata.specs.Streams.{end_of, first_cut, first_outside, first_repeated, header_at, header_named, header_of, headers_at, headers_from, headers_in, is_inside, next_header, span_of, stream_count, tables_name};
 ghost use Rattle.metadata.specs.Steps.{AreInside, AreStreams};
 
 use crate::check::Check;
@@ -214,4 +214,38 @@ pub(crate) struct Streams {
     pub guids: Span,
     /// `#Blob`.
     pub blobs: Span,
+}
+
+impl Streams {
+    /// The streams of the metadata at a range. `Malformed` names the first of the checks 32 to 35 that fails, with its place.
+    #[tactic(auto, unfolding(crate::specs::Streams::headers_in, crate::specs::Streams::stream_of))]
+    pub(crate) fn read(
+        alloc: Global,
+        bytes: &[u8],
+        span: Span,
+        root: Root,
+    ) -> Result<Streams, ReadRefusal>
+        requires small { length bytes.now ≤ 2 ^ 31 }
+        requires whole { end_of span ≤ length bytes.now }
+        requires headers { root.headers_at ≡ headers_at bytes.now span.start }
+        requires count { root.stream_count ≡ stream_count bytes.now span.start }
+        requires within { root.headers_at ≤ end_of span }
+        ensures fault { IfErr result (λ e. RefusedBy (first_fault (stream_checks span) bytes.now) e) }
+        ensures ok { OnOk result (first_fault (stream_checks span) bytes.now ≡ None) }
+        ensures streams { IfOk result (λ s. AreStreams bytes.now span s) }
+        ensures inside { IfOk result (λ s. AreInside span s) }
+        ensures there { OnOk result (is_some (header_named tables_name (headers_in bytes.now span)) ≡ true) }
+    {
+        let headers = read_headers(alloc, bytes, span.start + span.len, root)?;
+        check_ranges(&headers, span)?;
+        check_names(alloc, &headers)?;
+        ensure(header_named(&headers, TABLES).is_some(), Check::TablesStream as u16, span.start)?;
+        Ok(Streams {
+            tables: span_named(&headers, TABLES, span),
+            strings: span_named(&headers, STRINGS, span),
+            user_strings: span_named(&headers, USER_STRINGS, span),
+            guids: span_named(&headers, GUIDS, span),
+            blobs: span_named(&headers, BLOBS, span),
+        })
+    }
 }
