@@ -4,3 +4,4 @@ pub mod Tables
 pub mod Heaps
 pub mod Checks
 pub mod Steps
+pub mod Kept

@@ -3,7 +3,9 @@
 
 mod check;
 mod header;
+mod layout;
 mod schema;
 mod streams;
+mod texts;
 
-pub use schema::{CODED_TABLES, COLUMNS, CodedKind, CodedTable, Column, ColumnKind, Heap, Table};
+pub use schema::{CODED_KINDS, CODED_TABLES, COLUMNS, CodedKind, CodedTable, Column, ColumnKind, Heap, Table};
