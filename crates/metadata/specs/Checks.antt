@@ -1,16 +1,17 @@
 -- The checks of metadata at a range of the file, each computed from the bytes alone.
-use Rattle.std.specs.Prelude.{ℕ, zero, suc, ◌+◌, ◌-◌, ◌*◌, ◌/◌, ◌%◌, ◌^◌, ◌==◌, ◌&&◌, ◌||◌, not, Bool, true, false, List, [], ◌∷◌, ◌++◌, length, map, get_or, find, sum_by, Option, Some, None, nat_le, nat_lt, is_some, if◌then◌else◌}
+use Rattle.std.specs.Prelude.{ℕ, zero, suc, ◌+◌, ◌-◌, ◌*◌, ◌/◌, ◌%◌, ◌^◌, ◌==◌, ◌&&◌, ◌||◌, not, Bool, true, false, List, [], ◌∷◌, ◌++◌, length, map, get_or, find, Option, Some, None, nat_le, nat_lt, is_some, if◌then◌else◌}
 use Rattle.std.specs.Option.{option_map}
-use Rattle.std.specs.List.{list_all, range_with_len}
+use Rattle.std.specs.List.{list_all, list_any, range_with_len}
 use Rattle.rtr_bytes.specs.declared.fault.Span.{Span}
 use Rattle.rtr_bytes.specs.Field.{u32_of}
 use Rattle.rtr_bytes.specs.Checks.{Check, check, holds_or}
 use Rattle.metadata.specs.declared.schema.Table.TheVariants as tables
 use Rattle.metadata.specs.declared.schema.ColumnKind.{ColumnKind}
 use Rattle.metadata.specs.declared.schema.ColumnKind.TheVariants as columns
-use Rattle.metadata.specs.Schema.{columns_of, table_number}
+use Rattle.metadata.specs.declared.schema.TheConstants.{COLUMNS}
+use Rattle.metadata.specs.Schema.{is_of, columns_of, table_number}
 use Rattle.metadata.specs.Streams.{end_of, first_cut, first_outside, first_repeated, header_named, headers_at, headers_in, stream_count, stream_of, tables_name, version_length}
-use Rattle.metadata.specs.Tables.{Layout, column_at, count_at, has_table, heap_sizes_of, layout_of, number_of, row_count, rows_of, rows_place, table_size, valid_of}
+use Rattle.metadata.specs.Tables.{Layout, column_at, count_at, has_table, heap_sizes_of, layout_of, number_of, row_count, rows_of, rows_place, table_at, valid_of}
 use Rattle.metadata.specs.Heaps.{is_valid}
 
 -- the root
@@ -38,27 +39,50 @@ tables_of bytes span = stream_of bytes span tables_name
 
 -- a table that the standard has
 abbrev pub is_known : ℕ → Bool
-is_known table = nat_lt 0 (length (columns_of table))
+is_known table = list_any (is_of table) COLUMNS
+
+-- the stream has its header and its counts
+abbrev pub cut_header : List ℕ → Span → Option ℕ
+cut_header bytes stream =
+    holds_or (nat_le 24 stream.len && nat_le (rows_place bytes stream.start) (end_of stream)) stream.start
+
+-- HeapSizes has no bit but 1, 2 and 4
+abbrev pub unknown_heap : List ℕ → ℕ → Option ℕ
+unknown_heap bytes at = holds_or (nat_lt (heap_sizes_of bytes at) 8) (at + 6)
+
+-- Valid has bits of known tables alone
+abbrev pub table_is_known : ℕ → ℕ → Bool
+table_is_known valid table = not (has_table valid table) || is_known table
+
+abbrev pub unknown_table : List ℕ → ℕ → Option ℕ
+unknown_table bytes at = holds_or (list_all (table_is_known (valid_of bytes at)) (range_with_len 0 64)) (at + 8)
 
 -- the first count that has more than 24 bits
+abbrev pub is_large : List ℕ → ℕ → ℕ → Bool
+is_large bytes at table = not (nat_lt (row_count bytes at table) (2 ^ 24))
+
 abbrev pub first_large : List ℕ → ℕ → Option ℕ
-first_large bytes at = option_map (count_at bytes at) (find (λ table. not (nat_lt (row_count bytes at table) (2 ^ 24))) (range_with_len 0 64))
+first_large bytes at = option_map (count_at bytes at) (find (is_large bytes at) (range_with_len 0 64))
 
-abbrev pub all_rows_fit : List ℕ → Span → Layout → Bool
-all_rows_fit bytes stream layout =
-    nat_le (rows_place bytes stream.start + sum_by (table_size layout) (range_with_len 0 64)) (end_of stream)
-
-abbrev pub tables_checks : Span → List Check
-tables_checks span =
-    check 36 (λ bytes. let stream = tables_of bytes span in
-    holds_or (nat_le 24 stream.len && nat_le (rows_place bytes stream.start) (end_of stream)) stream.start)
-    ∷ check 37 (λ bytes. let at = (tables_of bytes span).start in holds_or (nat_lt (heap_sizes_of bytes at) 8) (at + 6))
-    ∷ check 38 (λ bytes. let at = (tables_of bytes span).start in
-    holds_or (list_all (λ table. not (has_table (valid_of bytes at) table) || is_known table) (range_with_len 0 64)) (at + 8))
+abbrev pub header_checks : Span → List Check
+header_checks span =
+    check 36 (λ bytes. cut_header bytes (tables_of bytes span))
+    ∷ check 37 (λ bytes. unknown_heap bytes (tables_of bytes span).start)
+    ∷ check 38 (λ bytes. unknown_table bytes (tables_of bytes span).start)
     ∷ check 39 (λ bytes. first_large bytes (tables_of bytes span).start)
-    ∷ check 40 (λ bytes. let stream = tables_of bytes span in holds_or (all_rows_fit bytes stream (layout_of bytes span)) stream.start)
-    ∷ check 41 (λ bytes. let layout = layout_of bytes span in
-    holds_or (rows_of layout (table_number tables.Module) == 1 && rows_of layout (table_number tables.Assembly) == 1) ((tables_of bytes span).start + 8))
+    ∷ []
+
+-- the rows
+abbrev pub all_rows_fit : Span → Layout → Bool
+all_rows_fit stream layout = nat_le (table_at layout 64) (end_of stream)
+
+abbrev pub has_one_assembly : Layout → Bool
+has_one_assembly layout = rows_of layout (table_number tables.Module) == 1 && rows_of layout (table_number tables.Assembly) == 1
+
+abbrev pub row_checks : Span → List Check
+row_checks span =
+    check 40 (λ bytes. let stream = tables_of bytes span in holds_or (all_rows_fit stream (layout_of bytes span)) stream.start)
+    ∷ check 41 (λ bytes. holds_or (has_one_assembly (layout_of bytes span)) ((tables_of bytes span).start + 8))
     ∷ []
 
 -- ---- the columns
@@ -79,7 +103,7 @@ first_column layout answer =
 
 -- a column whose number names nothing
 abbrev pub kind_of : ℕ → ℕ → ColumnKind
-kind_of table column = get_or (columns_of table) column (columns.Fixed 0)
+kind_of table column = get_or (columns_of table) column columns.UInt16
 
 abbrev pub bad_column : List ℕ → Layout → ℕ → ℕ → ℕ → Option ℕ
 bad_column bytes layout table row column =
@@ -103,6 +127,10 @@ column_checks span =
     ∷ check 43 (λ bytes. let layout = layout_of bytes span in first_column layout (fallen_column bytes layout))
     ∷ []
 
+-- those of the rows and columns
+abbrev pub layout_checks : Span → List Check
+layout_checks span = row_checks span ++ column_checks span
+
 -- all of them, in their order
 unfoldable pub metadata_checks : Span → List Check
-metadata_checks span = root_checks span ++ (stream_checks span ++ (tables_checks span ++ column_checks span))
+metadata_checks span = root_checks span ++ (stream_checks span ++ (header_checks span ++ layout_checks span))

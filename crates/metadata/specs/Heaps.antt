@@ -72,7 +72,8 @@ is_in_heap bytes layout heaps.Guids value = nat_le value (layout.guids.len / 16)
 is_in_heap bytes layout heaps.Blobs value = is_some (blob_of bytes layout value)
 
 unfoldable pub is_valid : List ℕ → Layout → ColumnKind → ℕ → Bool
-is_valid bytes layout (columns.Fixed size) value = true
+is_valid bytes layout columns.UInt16 value = true
+is_valid bytes layout columns.UInt32 value = true
 is_valid bytes layout (columns.Heap heap) value = is_in_heap bytes layout heap value
 is_valid bytes layout (columns.Row table) value = nat_le value (rows_of layout (table_number table))
 is_valid bytes layout (columns.Coded kind) value = is_some (coded_token layout kind value)

@@ -5,3 +5,4 @@ pub mod Heaps
 pub mod Checks
 pub mod Steps
 pub mod Names
+pub mod Kept

@@ -1,5 +1,5 @@
 -- The schema of metadata (ECMA-335 II.22 and II.24.2.6), by the lists of columns and of tagged tables.
-use Rattle.std.specs.Prelude.{ℕ, ◌==◌, ◌&&◌, List, Option, filter, find, map}
+use Rattle.std.specs.Prelude.{ℕ, Bool, ◌==◌, ◌&&◌, List, Option, filter, find, map}
 use Rattle.std.specs.Option.{option_map}
 use Rattle.metadata.specs.declared.schema.Table.{Table}
 use Rattle.metadata.specs.declared.schema.Table.TheVariants as tables
@@ -8,7 +8,7 @@ use Rattle.metadata.specs.declared.schema.CodedKind.TheVariants as kinds
 use Rattle.metadata.specs.declared.schema.ColumnKind.{ColumnKind}
 use Rattle.metadata.specs.declared.schema.Column.{Column}
 use Rattle.metadata.specs.declared.schema.CodedTable.{CodedTable}
-use Rattle.metadata.specs.declared.schema.TheConstants.{COLUMNS, CODED_TABLES}
+use Rattle.metadata.specs.declared.schema.TheConstants.{CODED_KINDS, CODED_TABLES, COLUMNS}
 
 -- the number of a table
 abbrev pub table_number : Table → ℕ
@@ -83,14 +83,27 @@ tag_bits kinds.CustomAttributeType = 3
 tag_bits kinds.ResolutionScope = 2
 tag_bits kinds.TypeOrMethodDef = 1
 
+-- a column is of a table
+abbrev pub is_of : ℕ → Column → Bool
+is_of table column = table_number column.table == table
+
 -- the kinds of a table's columns, in their order; none where there is no such table
+abbrev pub columns_in : List Column → ℕ → List ColumnKind
+columns_in columns table = map (λ c. c.kind) (filter (is_of table) columns)
+
 unfoldable pub columns_of : ℕ → List ColumnKind
-columns_of table = map (λ c. c.kind) (filter (λ c. table_number c.table == table) COLUMNS)
+columns_of table = columns_in COLUMNS table
 
 -- the table that a tag of a kind names
-unfoldable pub tagged_table : CodedKind → ℕ → Option Table
-tagged_table kind tag = option_map (λ t. t.table) (find (λ t. (kind_number t.kind == kind_number kind) && (t.tag == tag)) CODED_TABLES)
+abbrev pub tagged_table_in : List CodedTable → CodedKind → ℕ → Option Table
+tagged_table_in tagged kind tag = option_map (λ t. t.table) (find (λ t. (kind_number t.kind == kind_number kind) && (t.tag == tag)) tagged)
 
--- the tables that the tags of a kind name
-unfoldable pub tagged_tables : CodedKind → List Table
-tagged_tables kind = map (λ t. t.table) (filter (λ t. kind_number t.kind == kind_number kind) CODED_TABLES)
+unfoldable pub tagged_table : CodedKind → ℕ → Option Table
+tagged_table kind tag = tagged_table_in CODED_TABLES kind tag
+
+-- the kind of a number
+abbrev pub kind_in : List CodedKind → ℕ → Option CodedKind
+kind_in kinds number = find (λ k. kind_number k == number) kinds
+
+unfoldable pub kind_numbered : ℕ → Option CodedKind
+kind_numbered number = kind_in CODED_KINDS number

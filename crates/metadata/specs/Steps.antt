@@ -27,7 +27,13 @@ pub record AreInside (span : Span) (streams : Streams) : Type 0 where
   pub guids : end_of streams.guids ≤ end_of span
   pub blobs : end_of streams.blobs ≤ end_of span
 
--- the header of the tables' stream at a place
+-- what the header of the tables' stream at a place says
+pub record AreCounts (bytes : List ℕ) (at : ℕ) (header : TablesHeader) : Type 0 where
+  pub heap_sizes : header.heap_sizes ≡ heap_sizes_of bytes at
+  pub rows : header.rows.items ≡ map (row_count bytes at) (range_with_len 0 64)
+  pub rows_at : header.rows_at ≡ rows_place bytes at
+
+-- and no count has more than 24 bits
 pub record IsHeader (bytes : List ℕ) (at : ℕ) (header : TablesHeader) : Type 0 where
   pub heap_sizes : header.heap_sizes ≡ heap_sizes_of bytes at
   pub rows : header.rows.items ≡ map (row_count bytes at) (range_with_len 0 64)

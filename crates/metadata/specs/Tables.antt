@@ -1,5 +1,5 @@
 -- The tables of metadata (ECMA-335 II.24.2.6), each column of each row by its place.
-use Rattle.std.specs.Prelude.{ℕ, ◌+◌, ◌-◌, ◌*◌, ◌/◌, ◌%◌, ◌^◌, ◌==◌, ◌&&◌, ◌||◌, Bool, List, [], ◌∷◌, length, map, take, get_or, count_by, sum_by, Option, Some, None, nat_lt, nat_le, if◌then◌else◌, unwrap_or, slice_index}
+use Rattle.std.specs.Prelude.{ℕ, ◌+◌, ◌-◌, ◌*◌, ◌/◌, ◌%◌, ◌^◌, ◌==◌, ◌&&◌, ◌||◌, Bool, true, false, not, List, [], ◌∷◌, length, map, take, get_or, filter, count_by, sum_by, Option, Some, None, nat_lt, nat_le, if◌then◌else◌, unwrap_or, slice_index}
 use Rattle.std.specs.List.{list_all, range_with_len}
 use Rattle.rtr_bytes.specs.declared.fault.Span.{Span}
 use Rattle.rtr_bytes.specs.Field.{field_at, u32_of}
@@ -7,9 +7,11 @@ use Rattle.metadata.specs.declared.schema.Heap.{Heap}
 use Rattle.metadata.specs.declared.schema.Heap.TheVariants as heaps
 use Rattle.metadata.specs.declared.schema.Table.{Table}
 use Rattle.metadata.specs.declared.schema.CodedKind.{CodedKind}
+use Rattle.metadata.specs.declared.schema.CodedTable.{CodedTable}
+use Rattle.metadata.specs.declared.schema.TheConstants.{CODED_TABLES}
 use Rattle.metadata.specs.declared.schema.ColumnKind.{ColumnKind}
 use Rattle.metadata.specs.declared.schema.ColumnKind.TheVariants as columns
-use Rattle.metadata.specs.Schema.{columns_of, tag_bits, table_number, tagged_tables}
+use Rattle.metadata.specs.Schema.{columns_of, kind_number, table_number, tag_bits}
 use Rattle.metadata.specs.Streams.{blobs_name, guids_name, stream_of, strings_name, tables_name, user_strings_name}
 
 -- What a reader keeps of metadata: where its heaps are, how many rows each of 64 tables has, which heap indexes have four
@@ -68,27 +70,37 @@ layout_of bytes span =
 abbrev pub rows_of : Layout → ℕ → ℕ
 rows_of layout table = get_or layout.rows table 0
 
-abbrev pub wide_or_narrow : Bool → ℕ
-wide_or_narrow wide = if wide then 4 else 2
-
 abbrev pub heap_bit : Heap → ℕ
 heap_bit heaps.Strings = 1
 heap_bit heaps.Guids = 2
 heap_bit heaps.Blobs = 4
 
 -- an index into a table, or into one of several, has two bytes where they hold each of its values
-abbrev pub row_width : Layout → Table → ℕ
-row_width layout table = wide_or_narrow (nat_le (2 ^ 16) (rows_of layout (table_number table)))
+abbrev pub is_wide_row : Layout → Table → Bool
+is_wide_row layout table = nat_le (2 ^ 16) (rows_of layout (table_number table))
 
-abbrev pub is_short : Layout → CodedKind → Bool
-is_short layout kind = list_all (λ table. nat_lt (rows_of layout (table_number table)) (2 ^ (16 - tag_bits kind))) (tagged_tables kind)
+abbrev pub is_short_in : List CodedTable → Layout → CodedKind → Bool
+is_short_in tagged layout kind =
+    list_all (λ t. nat_lt (rows_of layout (table_number t.table)) (2 ^ (16 - tag_bits kind))) (filter (λ t. kind_number t.kind == kind_number kind) tagged)
+
+unfoldable pub is_short : Layout → CodedKind → Bool
+is_short layout kind = is_short_in CODED_TABLES layout kind
+
+-- a column has four bytes
+abbrev pub is_wide : Layout → ColumnKind → Bool
+is_wide layout columns.UInt16 = false
+is_wide layout columns.UInt32 = true
+is_wide layout (columns.Heap heap) = layout.heap_sizes / heap_bit heap % 2 == 1
+is_wide layout (columns.Row table) = is_wide_row layout table
+is_wide layout (columns.Coded kind) = not (is_short layout kind)
+is_wide layout (columns.List table) = is_wide_row layout table
+
+-- and else two
+abbrev pub width : Bool → ℕ
+width wide = if wide then 4 else 2
 
 abbrev pub width_of : Layout → ColumnKind → ℕ
-width_of layout (columns.Fixed size) = size
-width_of layout (columns.Heap heap) = wide_or_narrow (layout.heap_sizes / heap_bit heap % 2 == 1)
-width_of layout (columns.Row table) = row_width layout table
-width_of layout (columns.Coded kind) = if is_short layout kind then 2 else 4
-width_of layout (columns.List table) = row_width layout table
+width_of layout kind = width (is_wide layout kind)
 
 unfoldable pub widths_of : Layout → ℕ → List ℕ
 widths_of layout table = map (width_of layout) (columns_of table)

@@ -5,7 +5,9 @@ mod check;
 mod header;
 mod names;
 mod root;
+mod layout;
 mod schema;
 mod streams;
+mod texts;
 
-pub use schema::{CODED_TABLES, COLUMNS, CodedKind, CodedTable, Column, ColumnKind, Heap, Table};
+pub use schema::{CODED_KINDS, CODED_TABLES, COLUMNS, CodedKind, CodedTable, Column, ColumnKind, Heap, Table};

@@ -2,7 +2,7 @@
 //!
 //! [`COLUMNS`] and [`CODED_TABLES`] are the one place where they stand: the definitions and the code read these.
 
-ghost use Rattle.std.specs.Prelude.{◌≡◌};
+ghost use Rattle.std.specs.Prelude.{◌≡◌, ◌≤◌};
 ghost use Rattle.metadata.specs.Schema.{kind_number, tag_bits, table_number};
 
 /// A table of metadata, by its number.
@@ -147,7 +147,8 @@ impl CodedKind {
 
     /// How many of the low bits of an index are its tag.
     pub fn tag_bits(self) -> u8
-        ensures { result ≡ tag_bits self }
+        ensures bits { result ≡ tag_bits self }
+        ensures few { result ≤ 5 }
     {
         match self {
             CodedKind::HasFieldMarshal
@@ -169,8 +170,10 @@ impl CodedKind {
 /// What a column's number is.
 #[derive(Clone, Copy, Debug, PartialEq, Eq)]
 pub enum ColumnKind {
-    /// A number of so many bytes.
-    Fixed(u8),
+    /// A number of two bytes.
+    UInt16,
+    /// A number of four bytes.
+    UInt32,
     /// A place in a heap.
     Heap(Heap),
     /// A row of a table, from 1; 0 is none.
@@ -203,10 +206,16 @@ pub struct CodedTable {
 
 /// A column of a table.
 macro_rules! column {
-    ($table:ident, Fixed($size:literal)) => {
+    ($table:ident, UInt16) => {
         Column {
             table: Table::$table,
-            kind: ColumnKind::Fixed($size),
+            kind: ColumnKind::UInt16,
+        }
+    };
+    ($table:ident, UInt32) => {
+        Column {
+            table: Table::$table,
+            kind: ColumnKind::UInt32,
         }
     };
     ($table:ident, Heap($heap:ident)) => {
@@ -246,9 +255,26 @@ macro_rules! tagged {
     };
 }
 
+/// The kinds of coded indexes.
+pub const CODED_KINDS: [CodedKind; 13] = [
+    CodedKind::TypeDefOrRef,
+    CodedKind::HasConstant,
+    CodedKind::HasCustomAttribute,
+    CodedKind::HasFieldMarshal,
+    CodedKind::HasDeclSecurity,
+    CodedKind::MemberRefParent,
+    CodedKind::HasSemantics,
+    CodedKind::MethodDefOrRef,
+    CodedKind::MemberForwarded,
+    CodedKind::Implementation,
+    CodedKind::CustomAttributeType,
+    CodedKind::ResolutionScope,
+    CodedKind::TypeOrMethodDef,
+];
+
 /// The columns of all tables: by table, and then in their order.
 pub const COLUMNS: [Column; 122] = [
-    column!(Module, Fixed(2)), // Generation
+    column!(Module, UInt16), // Generation
     column!(Module, Heap(Strings)), // Name
     column!(Module, Heap(Guids)), // Mvid
     column!(Module, Heap(Guids)), // EncId
@@ -256,30 +282,30 @@ pub const COLUMNS: [Column; 122] = [
     column!(TypeRef, Coded(ResolutionScope)), // ResolutionScope
     column!(TypeRef, Heap(Strings)), // TypeName
     column!(TypeRef, Heap(Strings)), // TypeNamespace
-    column!(TypeDef, Fixed(4)), // Flags
+    column!(TypeDef, UInt32), // Flags
     column!(TypeDef, Heap(Strings)), // TypeName
     column!(TypeDef, Heap(Strings)), // TypeNamespace
     column!(TypeDef, Coded(TypeDefOrRef)), // Extends
     column!(TypeDef, List(Field)), // FieldList
     column!(TypeDef, List(MethodDef)), // MethodList
-    column!(Field, Fixed(2)), // Flags
+    column!(Field, UInt16), // Flags
     column!(Field, Heap(Strings)), // Name
     column!(Field, Heap(Blobs)), // Signature
-    column!(MethodDef, Fixed(4)), // RVA
-    column!(MethodDef, Fixed(2)), // ImplFlags
-    column!(MethodDef, Fixed(2)), // Flags
+    column!(MethodDef, UInt32), // RVA
+    column!(MethodDef, UInt16), // ImplFlags
+    column!(MethodDef, UInt16), // Flags
     column!(MethodDef, Heap(Strings)), // Name
     column!(MethodDef, Heap(Blobs)), // Signature
     column!(MethodDef, List(Param)), // ParamList
-    column!(Param, Fixed(2)), // Flags
-    column!(Param, Fixed(2)), // Sequence
+    column!(Param, UInt16), // Flags
+    column!(Param, UInt16), // Sequence
     column!(Param, Heap(Strings)), // Name
     column!(InterfaceImpl, Row(TypeDef)), // Class
     column!(InterfaceImpl, Coded(TypeDefOrRef)), // Interface
     column!(MemberRef, Coded(MemberRefParent)), // Class
     column!(MemberRef, Heap(Strings)), // Name
     column!(MemberRef, Heap(Blobs)), // Signature
-    column!(Constant, Fixed(2)), // Type
+    column!(Constant, UInt16), // Type
     column!(Constant, Coded(HasConstant)), // Parent
     column!(Constant, Heap(Blobs)), // Value
     column!(CustomAttribute, Coded(HasCustomAttribute)), // Parent
@@ -287,26 +313,26 @@ pub const COLUMNS: [Column; 122] = [
     column!(CustomAttribute, Heap(Blobs)), // Value
     column!(FieldMarshal, Coded(HasFieldMarshal)), // Parent
     column!(FieldMarshal, Heap(Blobs)), // NativeType
-    column!(DeclSecurity, Fixed(2)), // Action
+    column!(DeclSecurity, UInt16), // Action
     column!(DeclSecurity, Coded(HasDeclSecurity)), // Parent
     column!(DeclSecurity, Heap(Blobs)), // PermissionSet
-    column!(ClassLayout, Fixed(2)), // PackingSize
-    column!(ClassLayout, Fixed(4)), // ClassSize
+    column!(ClassLayout, UInt16), // PackingSize
+    column!(ClassLayout, UInt32), // ClassSize
     column!(ClassLayout, Row(TypeDef)), // Parent
-    column!(FieldLayout, Fixed(4)), // Offset
+    column!(FieldLayout, UInt32), // Offset
     column!(FieldLayout, Row(Field)), // Field
     column!(StandAloneSig, Heap(Blobs)), // Signature
     column!(EventMap, Row(TypeDef)), // Parent
     column!(EventMap, List(Event)), // EventList
-    column!(Event, Fixed(2)), // EventFlags
+    column!(Event, UInt16), // EventFlags
     column!(Event, Heap(Strings)), // Name
     column!(Event, Coded(TypeDefOrRef)), // EventType
     column!(PropertyMap, Row(TypeDef)), // Parent
     column!(PropertyMap, List(Property)), // PropertyList
-    column!(Property, Fixed(2)), // Flags
+    column!(Property, UInt16), // Flags
     column!(Property, Heap(Strings)), // Name
     column!(Property, Heap(Blobs)), // Type
-    column!(MethodSemantics, Fixed(2)), // Semantics
+    column!(MethodSemantics, UInt16), // Semantics
     column!(MethodSemantics, Row(MethodDef)), // Method
     column!(MethodSemantics, Coded(HasSemantics)), // Association
     column!(MethodImpl, Row(TypeDef)), // Class
@@ -314,56 +340,56 @@ pub const COLUMNS: [Column; 122] = [
     column!(MethodImpl, Coded(MethodDefOrRef)), // MethodDeclaration
     column!(ModuleRef, Heap(Strings)), // Name
     column!(TypeSpec, Heap(Blobs)), // Signature
-    column!(ImplMap, Fixed(2)), // MappingFlags
+    column!(ImplMap, UInt16), // MappingFlags
     column!(ImplMap, Coded(MemberForwarded)), // MemberForwarded
     column!(ImplMap, Heap(Strings)), // ImportName
     column!(ImplMap, Row(ModuleRef)), // ImportScope
-    column!(FieldRVA, Fixed(4)), // RVA
+    column!(FieldRVA, UInt32), // RVA
     column!(FieldRVA, Row(Field)), // Field
-    column!(Assembly, Fixed(4)), // HashAlgId
-    column!(Assembly, Fixed(2)), // MajorVersion
-    column!(Assembly, Fixed(2)), // MinorVersion
-    column!(Assembly, Fixed(2)), // BuildNumber
-    column!(Assembly, Fixed(2)), // RevisionNumber
-    column!(Assembly, Fixed(4)), // Flags
+    column!(Assembly, UInt32), // HashAlgId
+    column!(Assembly, UInt16), // MajorVersion
+    column!(Assembly, UInt16), // MinorVersion
+    column!(Assembly, UInt16), // BuildNumber
+    column!(Assembly, UInt16), // RevisionNumber
+    column!(Assembly, UInt32), // Flags
     column!(Assembly, Heap(Blobs)), // PublicKey
     column!(Assembly, Heap(Strings)), // Name
     column!(Assembly, Heap(Strings)), // Culture
-    column!(AssemblyProcessor, Fixed(4)), // Processor
-    column!(AssemblyOS, Fixed(4)), // OSPlatformID
-    column!(AssemblyOS, Fixed(4)), // OSMajorVersion
-    column!(AssemblyOS, Fixed(4)), // OSMinorVersion
-    column!(AssemblyRef, Fixed(2)), // MajorVersion
-    column!(AssemblyRef, Fixed(2)), // MinorVersion
-    column!(AssemblyRef, Fixed(2)), // BuildNumber
-    column!(AssemblyRef, Fixed(2)), // RevisionNumber
-    column!(AssemblyRef, Fixed(4)), // Flags
+    column!(AssemblyProcessor, UInt32), // Processor
+    column!(AssemblyOS, UInt32), // OSPlatformID
+    column!(AssemblyOS, UInt32), // OSMajorVersion
+    column!(AssemblyOS, UInt32), // OSMinorVersion
+    column!(AssemblyRef, UInt16), // MajorVersion
+    column!(AssemblyRef, UInt16), // MinorVersion
+    column!(AssemblyRef, UInt16), // BuildNumber
+    column!(AssemblyRef, UInt16), // RevisionNumber
+    column!(AssemblyRef, UInt32), // Flags
     column!(AssemblyRef, Heap(Blobs)), // PublicKeyOrToken
     column!(AssemblyRef, Heap(Strings)), // Name
     column!(AssemblyRef, Heap(Strings)), // Culture
     column!(AssemblyRef, Heap(Blobs)), // HashValue
-    column!(AssemblyRefProcessor, Fixed(4)), // Processor
+    column!(AssemblyRefProcessor, UInt32), // Processor
     column!(AssemblyRefProcessor, Row(AssemblyRef)), // AssemblyRef
-    column!(AssemblyRefOS, Fixed(4)), // OSPlatformId
-    column!(AssemblyRefOS, Fixed(4)), // OSMajorVersion
-    column!(AssemblyRefOS, Fixed(4)), // OSMinorVersion
+    column!(AssemblyRefOS, UInt32), // OSPlatformId
+    column!(AssemblyRefOS, UInt32), // OSMajorVersion
+    column!(AssemblyRefOS, UInt32), // OSMinorVersion
     column!(AssemblyRefOS, Row(AssemblyRef)), // AssemblyRef
-    column!(File, Fixed(4)), // Flags
+    column!(File, UInt32), // Flags
     column!(File, Heap(Strings)), // Name
     column!(File, Heap(Blobs)), // HashValue
-    column!(ExportedType, Fixed(4)), // Flags
-    column!(ExportedType, Fixed(4)), // TypeDefId
+    column!(ExportedType, UInt32), // Flags
+    column!(ExportedType, UInt32), // TypeDefId
     column!(ExportedType, Heap(Strings)), // TypeName
     column!(ExportedType, Heap(Strings)), // TypeNamespace
     column!(ExportedType, Coded(Implementation)), // Implementation
-    column!(ManifestResource, Fixed(4)), // Offset
-    column!(ManifestResource, Fixed(4)), // Flags
+    column!(ManifestResource, UInt32), // Offset
+    column!(ManifestResource, UInt32), // Flags
     column!(ManifestResource, Heap(Strings)), // Name
     column!(ManifestResource, Coded(Implementation)), // Implementation
     column!(NestedClass, Row(TypeDef)), // NestedClass
     column!(NestedClass, Row(TypeDef)), // EnclosingClass
-    column!(GenericParam, Fixed(2)), // Number
-    column!(GenericParam, Fixed(2)), // Flags
+    column!(GenericParam, UInt16), // Number
+    column!(GenericParam, UInt16), // Flags
     column!(GenericParam, Coded(TypeOrMethodDef)), // Owner
     column!(GenericParam, Heap(Strings)), // Name
     column!(MethodSpec, Coded(MethodDefOrRef)), // Method
