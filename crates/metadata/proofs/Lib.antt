@@ -1,3 +1,5 @@
 pub mod Text
 pub mod FirstOf
 pub mod Layouts
+pub mod Blobs
+pub mod Placed

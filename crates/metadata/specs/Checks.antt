@@ -78,10 +78,15 @@ unfoldable pub first_of : (ℕ → Option ℕ) → ℕ → ℕ → Option ℕ
 first_of answer from zero = None
 first_of answer from (suc n) = or_else (answer from) (first_of answer (from + 1) n)
 
--- by table, then by row, and then by column
+-- the first answer of a row's columns, of a table's rows, and of the tables
+abbrev pub first_in_row : (ℕ → ℕ → ℕ → Option ℕ) → ℕ → ℕ → Option ℕ
+first_in_row answer table row = first_of (answer table row) 0 (length (columns_of table))
+
+abbrev pub first_in_table : Layout → (ℕ → ℕ → ℕ → Option ℕ) → ℕ → Option ℕ
+first_in_table layout answer table = first_of (first_in_row answer table) 1 (rows_of layout table)
+
 unfoldable pub first_column : Layout → (ℕ → ℕ → ℕ → Option ℕ) → Option ℕ
-first_column layout answer =
-    first_of (λ table. first_of (λ row. first_of (answer table row) 0 (length (columns_of table))) 1 (rows_of layout table)) 0 64
+first_column layout answer = first_of (first_in_table layout answer) 0 64
 
 -- a column whose number names nothing
 abbrev pub kind_of : ℕ → ℕ → ColumnKind

@@ -5,3 +5,4 @@ pub mod Heaps
 pub mod Checks
 pub mod Steps
 pub mod Kept
+pub mod Marks

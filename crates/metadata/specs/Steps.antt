@@ -5,7 +5,7 @@ use Rattle.rtr_bytes.specs.declared.fault.Span.{Span}
 use Rattle.metadata.specs.declared.streams.Streams.{Streams}
 use Rattle.metadata.specs.declared.header.TablesHeader.{TablesHeader}
 use Rattle.metadata.specs.Streams.{blobs_name, end_of, guids_name, stream_of, strings_name, tables_name, user_strings_name}
-use Rattle.metadata.specs.Tables.{heap_sizes_of, row_count, rows_place}
+use Rattle.metadata.specs.Tables.{Layout, heap_sizes_of, row_count, rows_place}
 
 -- the streams of the metadata at a range
 pub record AreStreams (bytes : List ℕ) (span : Span) (streams : Streams) : Type 0 where
@@ -29,3 +29,15 @@ pub record IsHeader (bytes : List ℕ) (at : ℕ) (header : TablesHeader) : Type
   pub rows : header.rows.items ≡ map (row_count bytes at) (range_with_len 0 64)
   pub rows_at : header.rows_at ≡ rows_place bytes at
   pub few : All (λ n. n < 2 ^ 24) header.rows.items
+
+-- the layout by the streams and the header of the tables' stream
+abbrev pub layout_by : Streams → TablesHeader → Layout
+layout_by streams header = record {
+  strings = streams.strings;
+  user_strings = streams.user_strings;
+  guids = streams.guids;
+  blobs = streams.blobs;
+  heap_sizes = header.heap_sizes;
+  rows = header.rows.items;
+  rows_at = header.rows_at;
+}

@@ -3,7 +3,10 @@
 
 mod check;
 mod header;
+mod heaps;
+mod judge;
 mod layout;
+mod places;
 mod schema;
 mod streams;
 mod texts;
