@@ -42,15 +42,16 @@ judging_none bad falls base n start =
       falls_left = ap (λ k. or_else start (first_of falls k (n - 0))) at ∙ ap (λ k. or_else start (first_of falls base k)) left;
     }
 
-pub judging_more : (bad falls : ℕ → Option ℕ) (base n i : ℕ) (start now after : Option ℕ) → i < n → Judging bad falls base n i start now → IsJudged (bad (base + i)) (falls (base + i)) now (Ok after) → Judging bad falls base n (i + 1) start after
-judging_more bad falls base n i start now after lt j (good, after_is) =
+pub judging_more : (bad falls : ℕ → Option ℕ) (base n i at : ℕ) (start now after : Option ℕ) → i < n → at ≡ base + i → Judging bad falls base n i start now → IsJudged (bad at) (falls at) now (Ok after) → Judging bad falls base n (i + 1) start after
+judging_more bad falls base n i at start now after lt at_is j (good, after_is) =
     let rest_bad = first_of bad (base + (i + 1)) (n - (i + 1)) in
     let rest_falls = first_of falls (base + (i + 1)) (n - (i + 1)) in
     record {
-      bad_left = sym (first_more bad base i n lt ∙ ap (λ o. or_else o rest_bad) good) ∙ j.bad_left;
+      bad_left = sym (first_more bad base i n lt ∙ ap (λ k. or_else (bad k) rest_bad) (sym at_is) ∙ ap (λ o. or_else o rest_bad) good) ∙ j.bad_left;
       falls_left =
         ap (λ o. or_else o rest_falls) after_is
-        ∙ or_assoc now (falls (base + i)) rest_falls
+        ∙ or_assoc now (falls at) rest_falls
+        ∙ ap (λ k. or_else now (or_else (falls k) rest_falls)) at_is
         ∙ ap (or_else now) (sym (first_more falls base i n lt))
         ∙ j.falls_left;
     }
@@ -61,6 +62,7 @@ judging_all bad falls base n i start now all j =
     (sym j.bad_left ∙ first_end bad (base + i) (n - i) none,
     sym (ap (or_else now) (first_end falls (base + i) (n - i) none) ∙ or_none now) ∙ j.falls_left)
 
-pub judging_bad : (bad falls : ℕ → Option ℕ) (base n i : ℕ) (start now : Option ℕ) (fault : Fault) → i < n → Judging bad falls base n i start now → IsJudged (bad (base + i)) (falls (base + i)) now (Err fault) → IsJudged (first_of bad base n) (first_of falls base n) start (Err fault)
-judging_bad bad falls base n i start now fault lt j (number, found) =
-    (number, sym j.bad_left ∙ first_more bad base i n lt ∙ ap (λ o. or_else o (first_of bad (base + (i + 1)) (n - (i + 1)))) found)
+pub judging_bad : (bad falls : ℕ → Option ℕ) (base n i at : ℕ) (start now : Option ℕ) (fault : Fault) → i < n → at ≡ base + i → Judging bad falls base n i start now → IsJudged (bad at) (falls at) now (Err fault) → IsJudged (first_of bad base n) (first_of falls base n) start (Err fault)
+judging_bad bad falls base n i at start now fault lt at_is j (number, found) =
+    let rest = first_of bad (base + (i + 1)) (n - (i + 1)) in
+    (number, sym j.bad_left ∙ first_more bad base i n lt ∙ ap (λ k. or_else (bad k) rest) (sym at_is) ∙ ap (λ o. or_else o rest) found)

@@ -1,6 +1,6 @@
 -- Tables, rows and columns at their places.
-use Rattle.std.proofs.Common.{◌≡◌, ℕ, zero, suc, ◌+◌, ◌-◌, ◌*◌, ◌^◌, ◌<◌, ◌≤◌, ◌⊎◌, inl, inr, Bool, true, false, cond, List, [], ◌∷◌, ◌++◌, length, take, drop, get_or, map, Option, Some, None, refl, sym, ap, ◌∙◌, subst, arith, length-append}
-use Rattle.std.specs.Prelude.{sum_by, slice_get, nat_le}
+use Rattle.std.proofs.Common.{◌≡◌, ℕ, zero, suc, ◌+◌, ◌-◌, ◌*◌, ◌^◌, ◌<◌, ◌≤◌, ◌⊎◌, inl, inr, Bool, true, false, cond, List, [], ◌∷◌, ◌++◌, length, take, drop, get_or, map, Option, Some, None, Ok, Err, not, ◌&&◌, refl, sym, ap, ◌∙◌, subst, arith, length-append}
+use Rattle.std.specs.Prelude.{sum_by, slice_get, nat_le, nat_lt, unwrap_or}
 use Rattle.std.proofs.lemmas.Bool.{le-leb, lt-leb}
 use Rattle.std.proofs.lemmas.List.Sums.{sum_by-cons}
 use Rattle.std.proofs.Math.Nat.{mul-le-mul, mul-le-mul_right, suc-mul}
@@ -9,11 +9,15 @@ use Rattle.metadata.specs.declared.layout.ColumnLayout.{ColumnLayout}
 use Rattle.metadata.specs.declared.layout.TableLayout.{TableLayout}
 use Rattle.metadata.specs.declared.schema.ColumnKind.{ColumnKind}
 use Rattle.metadata.specs.declared.schema.ColumnKind.TheVariants as columns
-use Rattle.metadata.specs.Checks.{kind_of}
-use Rattle.metadata.specs.Kept.{AreTables, AreTablesSoFar, IsTable, column_layouts, fit_fault, size_of_columns}
+use Rattle.rtr_bytes.specs.declared.fault.Fault.{Fault}
+use Rattle.rtr_bytes.specs.Checks.{holds_or}
+use Rattle.rtr_bytes.specs.Field.{field_at}
+use Rattle.metadata.specs.Checks.{bad_column, fallen_column, falls, is_list, kind_of, or_else}
+use Rattle.metadata.specs.Heaps.{is_valid}
+use Rattle.metadata.specs.Kept.{AreTables, AreTablesSoFar, IsJudged, IsTable, column_layouts, falls_from, fit_fault, size_of_columns}
 use Rattle.metadata.specs.Schema.{columns_of}
 use Rattle.metadata.specs.Streams.{end_of}
-use Rattle.metadata.specs.Tables.{Layout, column_at, is_wide, row_size, rows_of, table_at, table_size, width, width_of, widths_of}
+use Rattle.metadata.specs.Tables.{Layout, column_at, is_wide, number_of, row_size, rows_of, table_at, table_size, width, width_of, widths_of}
 use Rattle.metadata.proofs.Layouts.{table_at_first, table_at_more, table_at_up}
 
 pub product : (a b : ℕ) → a < 2 ^ 24 → b ≤ 2 ^ 18 → a * b ≤ 2 ^ 42
@@ -33,9 +37,11 @@ pub record Placed (layout : Layout) (stream : Span) (n at : ℕ) (tables : List 
   pub so_far : AreTablesSoFar layout tables
   pub at_is : at ≡ table_at layout n
   pub fits : 0 < n → at ≤ end_of stream
+  pub narrow : at < 2 ^ 32
 
-pub placed_none : (layout : Layout) (stream : Span) (at : ℕ) → at ≡ layout.rows_at → Placed layout stream 0 at []
-placed_none layout stream at e = record {
+pub placed_none : (layout : Layout) (stream : Span) (at : ℕ) → at ≡ layout.rows_at → at < 2 ^ 32 → Placed layout stream 0 at []
+placed_none layout stream at e narrow = record {
+  narrow = narrow;
   count = refl;
   so_far = λ n t h. absurd (let x : ⊥ = cc in x);
   at_is = e ∙ sym (table_at_first layout);
@@ -57,6 +63,7 @@ placed_more layout stream n at next tables table p small next_is fits number at_
       ];
       at_is = omega (arith, more, here, product_is);
       fits = λ some. fits;
+      narrow = omega (arith, small, fits);
     }
 
 pub placed_all : (layout : Layout) (stream : Span) (at : ℕ) (tables : List TableLayout) → Placed layout stream 64 at tables → AreTables layout tables
@@ -158,8 +165,30 @@ place_is layout n table row c column place t is e =
     let product_is : (row - 1) * table.row.size ≡ (row - 1) * row_size layout n = ap (λ s. (row - 1) * s) t.row_size in
     omega (arith, e, at, offset, product_is)
 
-pub place_before : (at row size offset : ℕ) → 1 < row → at + (row - 1) * size + offset - size ≡ at + (row - 1 - 1) * size + offset
-place_before at row size offset more =
-    let whole : suc (row - 1 - 1) * size ≡ (row - 1 - 1) * size + size = suc-mul (row - 1 - 1) size in
-    let same : (row - 1) * size ≡ suc (row - 1 - 1) * size = ap (λ k. k * size) (omega arith) in
-    omega (arith, whole, same)
+-- ---- its number
+
+pub number_is : (bytes : List ℕ) (layout : Layout) (n row c : ℕ) (column : ColumnLayout) (place number : ℕ) → IsColumn layout n c column → place ≡ column_at layout n row c → number ≡ unwrap_or (field_at (width column.wide) bytes place) 0 → number ≡ number_of bytes layout n row c
+unfolding number_of
+number_is bytes layout n row c column place number is at e =
+    e ∙ ap (λ w. unwrap_or (field_at w bytes place) 0) is.size ∙ ap (λ p. unwrap_or (field_at (get_or (widths_of layout n) c 0) bytes p) 0) at
+
+pub column_bad : (bytes : List ℕ) (layout : Layout) (n row c : ℕ) (kind : ColumnKind) (number place : ℕ) (fault : Fault) (falls before : Option ℕ) → kind ≡ kind_of n c → number ≡ number_of bytes layout n row c → place ≡ column_at layout n row c → is_valid bytes layout kind number ≡ false → fault ≡ record { check = 42; place = place } → IsJudged (bad_column bytes layout n row c) falls before (Err fault)
+column_bad bytes layout n row c kind number place fault falls before kind_is number_same place_same bad e =
+    let here : is_valid bytes layout (kind_of n c) (number_of bytes layout n row c) ≡ false =
+      ap (λ k. is_valid bytes layout k (number_of bytes layout n row c)) (sym kind_is) ∙ ap (is_valid bytes layout kind) (sym number_same) ∙ bad in
+    (ap (λ f. f.check) e,
+    ap (λ b. holds_or b (column_at layout n row c)) here ∙ ap Some (sym place_same) ∙ ap (λ f. Some f.place) (sym e))
+
+pub column_good : (bytes : List ℕ) (layout : Layout) (n row c : ℕ) (table : TableLayout) (column : ColumnLayout) (number place : ℕ) (fell : Bool) (before after : Option ℕ) → IsTable layout n table → IsColumn layout n c column → number ≡ number_of bytes layout n row c → place ≡ column_at layout n row c → is_valid bytes layout column.kind number ≡ true → fell ≡ falls_from bytes table.at table.row.size row column number → after ≡ or_else before (holds_or (not fell) place) → IsJudged (bad_column bytes layout n row c) (fallen_column bytes layout n row c) before (Ok after)
+column_good bytes layout n row c table column number place fell before after t is number_same place_same good fell_is after_is =
+    let here : is_valid bytes layout (kind_of n c) (number_of bytes layout n row c) ≡ true =
+      ap (λ k. is_valid bytes layout k (number_of bytes layout n row c)) (sym is.kind) ∙ ap (is_valid bytes layout column.kind) (sym number_same) ∙ good in
+    let earlier : unwrap_or (field_at (width column.wide) bytes (table.at + (row - 1 - 1) * table.row.size + column.offset)) 0 ≡ number_of bytes layout n (row - 1) c =
+      number_is bytes layout n (row - 1) c column (table.at + (row - 1 - 1) * table.row.size + column.offset) _ is (place_is layout n table (row - 1) c column _ t is refl) refl in
+    let same : fell ≡ ((is_list (kind_of n c) && nat_lt 1 row) && falls bytes layout n row c) =
+      fell_is
+      ∙ ap (λ k. (is_list k && nat_lt 1 row) && nat_lt number (unwrap_or (field_at (width column.wide) bytes (table.at + (row - 1 - 1) * table.row.size + column.offset)) 0)) is.kind
+      ∙ ap (λ m. (is_list (kind_of n c) && nat_lt 1 row) && nat_lt number m) earlier
+      ∙ ap (λ m. (is_list (kind_of n c) && nat_lt 1 row) && nat_lt m (number_of bytes layout n (row - 1) c)) number_same in
+    (ap (λ b. holds_or b (column_at layout n row c)) here,
+    after_is ∙ ap (λ b. or_else before (holds_or (not b) place)) same ∙ ap (λ p. or_else before (holds_or (not ((is_list (kind_of n c) && nat_lt 1 row) && falls bytes layout n row c)) p)) place_same)

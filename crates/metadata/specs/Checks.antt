@@ -106,7 +106,7 @@ falls bytes layout table row column = nat_lt (number_of bytes layout table row c
 
 abbrev pub fallen_column : List ℕ → Layout → ℕ → ℕ → ℕ → Option ℕ
 fallen_column bytes layout table row column =
-    holds_or (not (is_list (kind_of table column) && nat_lt 1 row && falls bytes layout table row column)) (column_at layout table row column)
+    holds_or (not ((is_list (kind_of table column) && nat_lt 1 row) && falls bytes layout table row column)) (column_at layout table row column)
 
 abbrev pub column_checks : Span → List Check
 column_checks span =

@@ -11,7 +11,7 @@ use Rattle.metadata.specs.declared.schema.CodedKind.{CodedKind}
 use Rattle.metadata.specs.declared.schema.CodedKind.TheVariants as kinds
 use Rattle.metadata.specs.declared.schema.ColumnKind.{ColumnKind}
 use Rattle.metadata.specs.declared.schema.ColumnKind.TheVariants as columns
-use Rattle.metadata.specs.Schema.{table_number, tag_bits, tagged_table}
+use Rattle.metadata.specs.Schema.{kind_numbered, table_number, tag_bits, tagged_table}
 use Rattle.metadata.specs.Tables.{Layout, rows_of}
 
 -- the bytes of a heap
@@ -33,9 +33,13 @@ string_of bytes layout at = if at == 0 then Some [] else text_in (drop at (heap_
 
 -- ---- blobs
 
--- the bytes after a compressed length, where they are all there
+-- so many bytes, where they are all there
+abbrev pub front_if : ℕ → List ℕ → Option (List ℕ)
+front_if len bytes = if nat_le len (length bytes) then Some (take len bytes) else None
+
+-- the bytes after a compressed length
 abbrev pub counted : List ℕ → ℕ × ℕ → Option (List ℕ)
-counted bytes (len, size) = if nat_le (size + len) (length bytes) then Some (take len (drop size bytes)) else None
+counted bytes (len, size) = front_if len (drop size bytes)
 
 unfoldable pub blob_in : List ℕ → Option (List ℕ)
 blob_in bytes = option_and_then (counted bytes) (compressed_in bytes)
@@ -63,6 +67,10 @@ row_token layout row table = if nat_le row (rows_of layout (table_number table))
 -- the token that an index of a kind names: its tag is listed, and its row is at most the last of that table
 unfoldable pub coded_token : Layout → CodedKind → ℕ → Option ℕ
 coded_token layout kind value = option_and_then (row_token layout (value / 2 ^ tag_bits kind)) (tagged_table kind (value % 2 ^ tag_bits kind))
+
+-- the same by the kind's number
+abbrev pub coded_of : Layout → ℕ → ℕ → Option ℕ
+coded_of layout kind value = option_and_then (λ k. coded_token layout k value) (kind_numbered kind)
 
 -- ---- whether a column's number names what it should
 

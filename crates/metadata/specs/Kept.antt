@@ -1,16 +1,17 @@
 -- What the reader keeps, to find each column without a walk.
-use Rattle.std.specs.Prelude.{◌≡◌, ◌≤◌, ◌^◌, ℕ, ◌+◌, List, [], ◌∷◌, length, map, sum_by, Option, Some, None, Result, Ok, Err, slice_get}
+use Rattle.std.specs.Prelude.{◌≡◌, ◌≤◌, ◌^◌, ℕ, ◌+◌, ◌-◌, ◌*◌, ◌&&◌, Bool, nat_lt, unwrap_or, List, [], ◌∷◌, length, map, sum_by, Option, Some, None, Result, Ok, Err, slice_get}
 use Rattle.rtr_bytes.specs.declared.fault.Fault.{Fault}
 use Rattle.rtr_bytes.specs.declared.fault.Span.{Span}
 use Rattle.rtr_bytes.specs.Checks.{fault_or, holds_or}
+use Rattle.rtr_bytes.specs.Field.{field_at}
 use Rattle.metadata.specs.declared.judge.Judge.{Judge}
 use Rattle.metadata.specs.declared.layout.ColumnLayout.{ColumnLayout}
 use Rattle.metadata.specs.declared.layout.TableLayout.{TableLayout}
 use Rattle.metadata.specs.declared.schema.ColumnKind.{ColumnKind}
-use Rattle.metadata.specs.Checks.{all_rows_fit, bad_column, fallen_column, first_column, has_one_assembly, or_else}
+use Rattle.metadata.specs.Checks.{all_rows_fit, bad_column, fallen_column, first_column, has_one_assembly, is_list, or_else}
 use Rattle.metadata.specs.Heaps.{heap_bytes}
 use Rattle.metadata.specs.Schema.{columns_of}
-use Rattle.metadata.specs.Tables.{Layout, is_wide, row_size, rows_of, table_at, table_size, width_of}
+use Rattle.metadata.specs.Tables.{Layout, is_wide, row_size, rows_of, table_at, table_size, width, width_of}
 
 -- the columns of a row one after the other, from an offset in it
 abbrev pub column_layouts : Layout → ℕ → List ColumnKind → List ColumnLayout
@@ -49,11 +50,23 @@ one_fault stream layout = fault_or 41 (holds_or (has_one_assembly layout) (strea
 abbrev pub column_fault : List ℕ → Layout → Option Fault
 column_fault bytes layout = fault_or 42 (first_column layout (bad_column bytes layout)) (fault_or 43 (first_column layout (fallen_column bytes layout)) None)
 
+-- and of both and the columns
+abbrev pub layout_fault : List ℕ → Span → Layout → Option Fault
+layout_fault bytes stream layout =
+    fault_or 40 (holds_or (all_rows_fit stream layout) stream.start)
+    (fault_or 41 (holds_or (has_one_assembly layout) (stream.start + 8)) (column_fault bytes layout))
+
 -- What is known after some columns were judged: none is bad, and the first that falls, or that was known to fall before, is
 -- kept; or the place of the first bad one.
 abbrev pub IsJudged : Option ℕ → Option ℕ → Option ℕ → Result (Option ℕ) Fault → Type 0
 IsJudged bad falls before (Ok after) = (bad ≡ None) × (after ≡ or_else before falls)
 IsJudged bad falls before (Err fault) = (fault.check ≡ 42) × (bad ≡ Some fault.place)
+
+-- the number of a list column is less than that of the row before
+abbrev pub falls_from : List ℕ → ℕ → ℕ → ℕ → ColumnLayout → ℕ → Bool
+falls_from bytes at size row column number =
+    (is_list column.kind && nat_lt 1 row)
+    && nat_lt number (unwrap_or (field_at (width column.wide) bytes (at + (row - 1 - 1) * size + column.offset)) 0)
 
 -- the judge has the texts of the heap
 pub record IsReady (judge : Judge) : Type 0 where

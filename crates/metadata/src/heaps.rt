@@ -1,16 +1,41 @@
 //! Heaps by place: texts, blobs and user strings (ECMA-335 II.24.2.3 and II.24.2.4).
 
-ghost use Rattle.std.specs.Prelude.{◌≡◌, ◌≤◌, ◌^◌, ◌==◌, length, drop, position, option_copied};
-ghost use Rattle.metadata.specs.Heaps.{blob_in, heap_bytes, text_in, text_of, without_last};
+ghost use Rattle.std.specs.Prelude.{◌≡◌, ◌≤◌, ◌^◌, ◌==◌, length, drop, take, position, option_copied};
+ghost use Rattle.metadata.specs.Heaps.{blob_in, front_if, heap_bytes, text_in, text_of, without_last};
 
 use rtr_bytes::{Span, compressed_at};
+
+/// The bytes from an offset on.
+fn rest_of(bytes: &[u8], at: u32) -> &[u8]
+    ensures { result.now ≡ drop at bytes.now }
+{
+    bytes.get(at as usize..).unwrap_or(&[])
+}
+
+/// The first bytes, as far as they are there.
+fn front_of(bytes: &[u8], len: usize) -> &[u8]
+    ensures { result.now ≡ take len bytes.now }
+{
+    bytes.get(..len).unwrap_or(bytes)
+}
+
+/// The first bytes, where they are all there.
+fn front_if(bytes: &[u8], len: u32) -> Option<&[u8]>
+    ensures { option_copied result ≡ front_if len bytes.now }
+{
+    let len = len as usize;
+    if len <= bytes.len() {
+        Some(front_of(bytes, len))
+    } else {
+        None
+    }
+}
 
 /// The bytes of a heap, as far as they are there.
 pub(crate) fn heap_of(bytes: &[u8], span: Span) -> &[u8]
     ensures { result.now ≡ heap_bytes bytes.now span }
 {
-    let rest = bytes.get(span.start as usize..).unwrap_or(&[]);
-    rest.get(..span.len as usize).unwrap_or(rest)
+    front_of(rest_of(bytes, span.start), span.len as usize)
 }
 
 /// Where the first zero is.
@@ -32,13 +57,12 @@ fn text_of(bytes: &[u8]) -> Option<&str>
 }
 
 /// The text at an offset of a heap.
-#[tactic(auto, using(crate::proofs::Text::text_by_zero, crate::proofs::Text::text_without_zero))]
 pub(crate) fn text_at(heap: &[u8], at: u32) -> Option<&str>
     ensures { option_copied result ≡ text_in (drop at heap.now) }
 {
-    let rest = heap.get(at as usize..)?;
+    let rest = rest_of(heap, at);
     let len = zero_in(rest)?;
-    text_of(&rest[..len])
+    text_of(front_of(rest, len))
 }
 
 /// The blob at an offset of a heap.
@@ -47,8 +71,7 @@ pub(crate) fn blob_at(heap: &[u8], at: u32) -> Option<&[u8]>
     ensures { option_copied result ≡ blob_in (drop at heap.now) }
 {
     let (len, next) = compressed_at(heap, at)?;
-    let rest = &heap[next as usize..];
-    rest.get(..len as usize)
+    front_if(rest_of(heap, next), len)
 }
 
 /// The bytes but for the last, where their number is odd.

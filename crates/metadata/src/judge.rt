@@ -1,13 +1,13 @@
 //! The checks of the columns, in one pass over the rows.
 
-ghost use Rattle.std.specs.Prelude.{◌≡◌, ◌≤◌, ◌<◌, ◌^◌, Option, None, not, length, IfErr, OnOk, is_some};
+ghost use Rattle.std.specs.Prelude.{◌≡◌, ◌≤◌, ◌<◌, ◌+◌, ◌*◌, ◌^◌, Option, None, not, length, IfErr, OnOk, is_some};
 ghost use Rattle.rtr_bytes.specs.Checks.{holds_or};
 ghost use Rattle.metadata.specs.Checks.{bad_column, fallen_column, first_column, first_in_row, first_in_table, or_else};
 ghost use Rattle.metadata.specs.Heaps.{blob_of, is_in_heap, is_valid, string_of};
-ghost use Rattle.metadata.specs.Kept.{AreTables, IsJudged, IsReady, IsTable, column_fault};
+ghost use Rattle.metadata.specs.Kept.{AreTables, IsJudged, IsReady, IsTable, column_fault, falls_from};
 
 use crate::check::Check;
-use crate::layout::TableLayout;
+use crate::layout::{ColumnLayout, TableLayout};
 use crate::places::Places;
 use crate::schema::{ColumnKind, Heap};
 use crate::texts::Texts;
@@ -77,6 +77,23 @@ impl<'a> Judge<'a> {
         }
     }
 
+    /// Whether the number of a list column is less than that of the row before.
+    fn falls(&self, table: &TableLayout, row: u32, column: ColumnLayout, number: u32) -> bool
+        requires ready { IsReady self.now }
+        requires rows { table.now.at + table.now.rows * table.now.row.size ≤ 2 ^ 31 }
+        requires first { 1 ≤ row }
+        requires last { row ≤ table.now.rows }
+        requires inside { column.offset ≤ table.now.row.size }
+        ensures { result ≡ falls_from self.now.bytes.now table.now.at table.now.row.size row column number }
+    {
+        if column.kind.is_list() && row > 1 {
+            let before = table.row_at(row - 1) + column.offset;
+            number < column.number_at(self.bytes, before)
+        } else {
+            false
+        }
+    }
+
     /// Judges a column of a row, after the columns before it.
     fn check_column(
         &self,
@@ -101,9 +118,7 @@ impl<'a> Judge<'a> {
             Check::Column as u16,
             place,
         )?;
-        let falls = column.kind.is_list()
-            && row > 1
-            && number < column.number_at(self.bytes, place - table.row.size);
+        let falls = self.falls(table, row, column, number);
         Ok(first_fallen(fallen, falls, place))
     }
 

@@ -6,9 +6,11 @@ mod header;
 mod heaps;
 mod judge;
 mod layout;
+mod metadata;
 mod places;
 mod schema;
 mod streams;
 mod texts;
 
+pub use metadata::Metadata;
 pub use schema::{CODED_KINDS, CODED_TABLES, COLUMNS, CodedKind, CodedTable, Column, ColumnKind, Heap, Table};

@@ -118,7 +118,8 @@ impl Places {
 
     /// The file offset of the first row.
     pub(crate) fn rows_at(&self) -> u32
-        ensures { result ≡ self.now.rows_at }
+        ensures place { result ≡ self.now.rows_at }
+        ensures narrow { result < 2 ^ 32 }
     {
         self.rows_at
     }
