@@ -3,6 +3,7 @@ use Rattle.std.proofs.Common.{◌≡◌, Bor, ℕ, ◌+◌, List, drop, Option, 
 use Rattle.std.specs.Prelude.{is_some, option_copied}
 use Rattle.std.specs.Option.{option_and_then, option_map}
 use Rattle.std.proofs.lemmas.List.{drop-drop}
+use Rattle.std.proofs.lemmas.Option.{some_pair_parts}
 use Rattle.rtr_bytes.specs.Compressed.{compressed_at, compressed_in}
 use Rattle.metadata.specs.Heaps.{blob_in, counted, front_if}
 
@@ -27,8 +28,9 @@ no_blob heap at e = none_spelled (drop at heap) at (compressed_in (drop at heap)
 some_spelled : (heap : List ℕ) (at len next : ℕ) (o : Option (ℕ × ℕ)) → ◌≡◌ {A = Option (ℕ × ℕ)} (Some (len, next)) (option_map (found_at at) o) → option_and_then (counted (drop at heap)) o ≡ front_if len (drop next heap)
 some_spelled heap at len next None e = absurd (let x : ⊥ = cc in x)
 some_spelled heap at len next (Some (n, size)) e =
-    let same_len : len ≡ n = cc in
-    let same_next : next ≡ at + size = cc in
+    let parts = some_pair_parts {A = ℕ} {B = ℕ} len n next (at + size) e in
+    let same_len = parts.0 in
+    let same_next = parts.1 in
     ap (front_if n) (drop-drop size at heap) ∙ ap (λ k. front_if n (drop k heap)) (sym same_next) ∙ ap (λ k. front_if k (drop next heap)) (sym same_len)
 
 pub the_blob : (heap : List ℕ) (at len next : ℕ) → ◌≡◌ {A = Option (ℕ × ℕ)} (Some (len, next)) (compressed_at heap at) → blob_in (drop at heap) ≡ front_if len (drop next heap)

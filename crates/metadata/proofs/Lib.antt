@@ -3,3 +3,6 @@ pub mod FirstOf
 pub mod Layouts
 pub mod Blobs
 pub mod Placed
+pub mod ColumnOf
+pub mod Joined
+pub mod ListsOfRows

@@ -136,7 +136,7 @@ table_of bytes layout table = map (row_of bytes layout table) (range_with_len 1 
 
 -- the column of a row, where there is one: rows count from 1, columns from 0
 abbrev pub has_column : Layout → ℕ → ℕ → ℕ → Bool
-has_column layout table row column = nat_le 1 row && nat_le row (rows_of layout table) && nat_lt column (length (columns_of table))
+has_column layout table row column = nat_le 1 row && (nat_le row (rows_of layout table) && nat_lt column (length (columns_of table)))
 
 unfoldable pub column_of : List ℕ → Layout → ℕ → ℕ → ℕ → Option ℕ
 column_of bytes layout table row column = if has_column layout table row column then Some (number_of bytes layout table row column) else None

@@ -1,6 +1,6 @@
 //! Where the rows and the columns of the tables are (ECMA-335 II.24.2.6).
 
-ghost use Rattle.std.specs.Prelude.{◌≡◌, ◌≤◌, ◌<◌, ◌+◌, ◌*◌, ◌^◌, ◌-◌, length, IfOk, IfErr, OnOk, None, unwrap_or};
+ghost use Rattle.std.specs.Prelude.{◌≡◌, ◌≤◌, ◌<◌, ◌+◌, ◌*◌, ◌^◌, ◌-◌, length, IfOk, IfErr, OnOk, None, option_copied, slice_get, unwrap_or};
 ghost use Rattle.rtr_bytes.specs.Checks.{RefusedBy};
 ghost use Rattle.rtr_bytes.specs.Field.{field_at};
 ghost use Rattle.metadata.specs.Kept.{AreTables, column_layouts, fit_fault, size_of_columns};
@@ -157,4 +157,18 @@ pub(crate) fn read_tables(
         at = next as u32;
     }
     Ok(tables)
+}
+
+/// The table of a number.
+pub(crate) fn nth_table(tables: &[TableLayout], number: u8) -> Option<&TableLayout>
+    ensures { option_copied result ≡ slice_get tables.now number }
+{
+    tables.get(number as usize)
+}
+
+/// The column of a number, from 0.
+pub(crate) fn nth_column(columns: &[ColumnLayout], index: u8) -> Option<&ColumnLayout>
+    ensures { option_copied result ≡ slice_get columns.now index }
+{
+    columns.get(index as usize)
 }

@@ -5,6 +5,7 @@ mod check;
 mod header;
 mod heaps;
 mod judge;
+mod laws;
 mod layout;
 mod metadata;
 mod places;
@@ -12,5 +13,6 @@ mod schema;
 mod streams;
 mod texts;
 
+pub use laws::tables_are_lists_of_rows;
 pub use metadata::Metadata;
 pub use schema::{CODED_KINDS, CODED_TABLES, COLUMNS, CodedKind, CodedTable, Column, ColumnKind, Heap, Table};

@@ -14,7 +14,7 @@ use crate::check::Check;
 use crate::header::TablesHeader;
 use crate::heaps::heap_of;
 use crate::judge::Judge;
-use crate::layout::{TableLayout, read_tables};
+use crate::layout::{TableLayout, nth_column, nth_table, read_tables};
 use crate::places::Places;
 use crate::schema::{CODED_KINDS, CodedKind, Table};
 use crate::streams::Streams;
@@ -126,8 +126,8 @@ impl Metadata {
         requires { length bytes.now ≤ 2 ^ 31 }
         ensures { result ≡ column_of bytes.now self.now table row column }
     {
-        let table = self.tables.get(table as usize)?;
-        let column = table.row.columns.get(column as usize)?;
+        let table = nth_table(&self.tables, table)?;
+        let column = nth_column(&table.row.columns, column)?;
         if row == 0 || row > table.rows {
             return None;
         }

@@ -1,4 +1,4 @@
-use Rattle.std.proofs.Common.{rules, ◌≡◌, ℕ, ◌≤◌, sym, ap, ◌∙◌, subst, arith}
+use Rattle.std.proofs.Common.{rules, ◌≡◌, ℕ, ◌+◌, ◌≤◌, sym, ap, ◌∙◌, subst, arith}
 use Rattle.metadata.specs.declared.layout.ColumnLayout.{ColumnLayout}
 use Rattle.metadata.specs.Checks.{fallen_column}
 use Rattle.metadata.specs.Tables.{column_at, number_of}
@@ -15,16 +15,16 @@ overflow_add-place c =
     let row = c.row_at.ensures.inside in
     omega (arith, offset, size, row)
 
-pub falls-requires-clause-inside : goal.falls-requires-clause-inside
-falls-requires-clause-inside c =
+pub falls-falls-requires-clause-inside : goal.falls-falls-requires-clause-inside
+falls-falls-requires-clause-inside c =
     let P : ColumnLayout → Type 0 = λ k. IsColumn c.args.self.now.places.now c.args.table.now.number c.args.index k in
     let is = subst P (sym c.index.ensures) (column_of_table c.args.self.now.places.now c.args.table.now.number c.args.table.now c.args.index c.index.result.now c.requires.table c.requires.column) in
     let offset = is.inside in
     let size = c.requires.table.row_size in
     omega (arith, offset, size)
 
-pub falls-requires-clause-rows : goal.falls-requires-clause-rows
-falls-requires-clause-rows c = rows_inside c.args.self.now.places.now c.args.table.now.number c.args.table.now c.requires.table
+pub falls-falls-requires-clause-rows : goal.falls-falls-requires-clause-rows
+falls-falls-requires-clause-rows c = rows_inside c.args.self.now.places.now c.args.table.now.number c.args.table.now c.requires.table
 
 pub row_at-requires-clause-inside : goal.row_at-requires-clause-inside
 row_at-requires-clause-inside c = rows_inside c.args.self.now.places.now c.args.table.now.number c.args.table.now c.requires.table

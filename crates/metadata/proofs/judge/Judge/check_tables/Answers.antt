@@ -1,5 +1,5 @@
 use Rattle.std.proofs.Common.{rules, ◌≡◌, ℕ, ◌+◌, ◌<◌, None, List, length, get_or, refl, sym, ap, ◌∙◌, subst, arith}
-use Rattle.metadata.specs.Checks.{bad_column, fallen_column, first_in_row, first_in_table}
+use Rattle.metadata.specs.Checks.{bad_column, fallen_column, first_column, first_in_table}
 use Rattle.std.proofs.lemmas.Option.{slice_get_read}
 use Rattle.metadata.specs.declared.layout.TableLayout.{TableLayout}
 use Rattle.metadata.specs.Kept.{AreTables, IsTable}
@@ -20,17 +20,20 @@ check_table-requires-clause-table c =
     subst (λ n. IsTable c.args.self.now.places.now n c.table-item.result) (sym this.number) this
 
 pub returns-in_err-fallen : goal.returns-in_err-fallen
+unfolding first_column
 returns-in_err-fallen c =
     let count = c.requires.tables.all in
     let bad = judging_bad (first_in_table c.args.self.now.places.now (bad_column c.args.self.now.bytes.now c.args.self.now.places.now)) (first_in_table c.args.self.now.places.now (fallen_column c.args.self.now.bytes.now c.args.self.now.places.now)) 0 64 c.loop-table.table-index c.table-item.result.number None c.loop-table.fallen c.in_err-fallen.field-0.0 (omega (arith, count)) (number_at c.args.self.now.places.now c.args.tables.now c.loop-table.table-index c.table-item.result c.requires.tables c.loop-table-test.true c.table-item.is) c.loop-table.invariant c.in_err-fallen.ensures in
     search (rules, bad)
 
 pub loop-table-preserved : goal.loop-table-preserved
+unfolding first_column
 loop-table-preserved c =
     let count = c.requires.tables.all in
     judging_more (first_in_table c.args.self.now.places.now (bad_column c.args.self.now.bytes.now c.args.self.now.places.now)) (first_in_table c.args.self.now.places.now (fallen_column c.args.self.now.bytes.now c.args.self.now.places.now)) 0 64 c.loop-table.table-index c.table-item.result.number None c.loop-table.fallen c.in_ok-fallen.fallen (omega (arith, count)) (number_at c.args.self.now.places.now c.args.tables.now c.loop-table.table-index c.table-item.result c.requires.tables c.loop-table-test.true c.table-item.is) c.loop-table.invariant c.in_ok-fallen.ensures
 
 pub returns : goal.returns
+unfolding first_column
 returns c =
     let count = c.requires.tables.all in
     judging_all (first_in_table c.args.self.now.places.now (bad_column c.args.self.now.bytes.now c.args.self.now.places.now)) (first_in_table c.args.self.now.places.now (fallen_column c.args.self.now.bytes.now c.args.self.now.places.now)) 0 64 c.loop-table.table-index None c.loop-table.fallen (omega (arith, count)) c.loop-table.invariant
