@@ -1,9 +1,9 @@
 -- A column by its table, row and number, or none.
-use Rattle.std.proofs.Common.{◌≡◌, ℕ, zero, suc, ◌+◌, ◌-◌, ◌*◌, ◌^◌, ◌<◌, ◌≤◌, ◌==◌, Bool, true, false, cond, ◌&&◌, List, [], ◌∷◌, length, get_or, map, Option, Some, None, inl, inr, refl, sym, ap, ◌∙◌, subst, arith}
+use Rattle.std.proofs.Common.{◌≡◌, ℕ, zero, suc, ◌<◌, ◌≤◌, ◌==◌, Bool, true, false, cond, ◌&&◌, List, [], ◌∷◌, length, map, Some, None, inl, inr, refl, sym, ap, ◌∙◌, subst, arith}
 use Rattle.std.specs.Prelude.{filter, nat_le, nat_lt, slice_get}
 use Rattle.std.specs.List.{list_all}
 use Rattle.std.proofs.lemmas.Bool.{and_parts, cases_lt, le-leb, le-ltb, lt-leb, lt-ltb, ltb-true, ne_eqb}
-use Rattle.std.proofs.lemmas.Option.{get_or_from_slice_get, slice_get_within, slice_get-get_or}
+use Rattle.std.proofs.lemmas.Option.{get_or_from_slice_get, slice_get_within}
 use Rattle.metadata.specs.declared.layout.ColumnLayout.{ColumnLayout}
 use Rattle.metadata.specs.declared.layout.TableLayout.{TableLayout}
 use Rattle.metadata.specs.declared.schema.Column.{Column}
@@ -50,14 +50,14 @@ past_columns bytes layout n row c past = out bytes layout n row c (and_last (nat
 
 past_end : {X : Type 0} (xs : List X) (i : ℕ) → None ≡ slice_get xs i → length xs ≤ i
 past_end xs i e = elim (cases_lt i (length xs)) [
-    inl lt ↦ absurd (none_there xs i lt e)
+  | inl lt ↦ absurd (none_there xs i lt e)
   | inr ge ↦ ge
-  ]
+]
   where
-  none_there : {X : Type 0} (xs : List X) (i : ℕ) → i < length xs → None ≡ slice_get xs i → ⊥
-  none_there [] i h e = omega arith
-  none_there (x ∷ xs) zero h e = cc
-  none_there (x ∷ xs) (suc i) h e = none_there xs i (omega arith) e
+    none_there : {X : Type 0} (xs : List X) (i : ℕ) → i < length xs → None ≡ slice_get xs i → ⊥
+    none_there [] i h e = omega arith
+    none_there (x ∷ xs) zero h e = cc
+    none_there (x ∷ xs) (suc i) h e = none_there xs i (omega arith) e
 
 pub no_table : (bytes : List ℕ) (layout : Layout) (tables : List TableLayout) (n row c : ℕ) → AreTables layout tables → None ≡ slice_get tables n → column_of bytes layout n row c ≡ None
 no_table bytes layout tables n row c are e =

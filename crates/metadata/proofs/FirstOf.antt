@@ -1,5 +1,5 @@
 -- The first answer to numbers in a row, one number at a time.
-use Rattle.std.proofs.Common.{◌≡◌, ℕ, zero, suc, ◌+◌, ◌-◌, ◌<◌, Option, Some, None, Ok, Err, refl, sym, ap, ◌∙◌, subst, arith}
+use Rattle.std.proofs.Common.{◌≡◌, ℕ, suc, ◌+◌, ◌-◌, ◌<◌, Option, Some, None, Ok, Err, refl, sym, ap, ◌∙◌, arith}
 use Rattle.rtr_bytes.specs.declared.fault.Fault.{Fault}
 use Rattle.metadata.specs.Checks.{first_of, or_else}
 use Rattle.metadata.specs.Kept.{IsJudged}
@@ -49,18 +49,19 @@ judging_more bad falls base n i at start now after lt at_is j (good, after_is) =
     record {
       bad_left = sym (first_more bad base i n lt ∙ ap (λ k. or_else (bad k) rest_bad) (sym at_is) ∙ ap (λ o. or_else o rest_bad) good) ∙ j.bad_left;
       falls_left =
-        ap (λ o. or_else o rest_falls) after_is
-        ∙ or_assoc now (falls at) rest_falls
-        ∙ ap (λ k. or_else now (or_else (falls k) rest_falls)) at_is
-        ∙ ap (or_else now) (sym (first_more falls base i n lt))
-        ∙ j.falls_left;
+          ap (λ o. or_else o rest_falls) after_is
+          ∙ or_assoc now (falls at) rest_falls
+          ∙ ap (λ k. or_else now (or_else (falls k) rest_falls)) at_is
+          ∙ ap (or_else now) (sym (first_more falls base i n lt))
+          ∙ j.falls_left;
     }
 
 pub judging_all : (bad falls : ℕ → Option ℕ) (base n i : ℕ) (start now : Option ℕ) → i ≡ n → Judging bad falls base n i start now → IsJudged (first_of bad base n) (first_of falls base n) start (Ok now)
 judging_all bad falls base n i start now all j =
-    let none : n - i ≡ 0 = omega arith in
-    (sym j.bad_left ∙ first_end bad (base + i) (n - i) none,
-    sym (ap (or_else now) (first_end falls (base + i) (n - i) none) ∙ or_none now) ∙ j.falls_left)
+    let none : n - i ≡ 0 = omega arith in (
+      sym j.bad_left ∙ first_end bad (base + i) (n - i) none,
+      sym (ap (or_else now) (first_end falls (base + i) (n - i) none) ∙ or_none now) ∙ j.falls_left,
+    )
 
 pub judging_bad : (bad falls : ℕ → Option ℕ) (base n i at : ℕ) (start now : Option ℕ) (fault : Fault) → i < n → at ≡ base + i → Judging bad falls base n i start now → IsJudged (bad at) (falls at) now (Err fault) → IsJudged (first_of bad base n) (first_of falls base n) start (Err fault)
 judging_bad bad falls base n i at start now fault lt at_is j (number, found) =

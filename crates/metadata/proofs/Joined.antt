@@ -1,5 +1,5 @@
 -- The layout by the parts of the reader, and its faults in their order.
-use Rattle.std.proofs.Common.{◌≡◌, ℕ, List, Option, Some, None, refl, sym, ap, ◌∙◌, subst}
+use Rattle.std.proofs.Common.{◌≡◌, ℕ, List, Option, Some, None, refl, ap, ◌∙◌}
 use Rattle.rtr_bytes.specs.declared.fault.Fault.{Fault}
 use Rattle.rtr_bytes.specs.declared.fault.ReadRefusal.{ReadRefusal}
 use Rattle.rtr_bytes.specs.declared.fault.ReadRefusal.TheVariants as refusals

@@ -1,6 +1,6 @@
 -- The columns and the tables by place.
-use Rattle.std.proofs.Common.{◌≡◌, ℕ, zero, suc, ◌+◌, ◌-◌, ◌*◌, ◌<◌, ◌≤◌, ◌==◌, Bool, true, false, cond, List, [], ◌∷◌, ◌++◌, length, take, drop, get_or, map, Option, Some, None, refl, sym, ap, ◌∙◌, subst, arith, append_assoc, append-nil, drop-cons}
-use Rattle.std.specs.Prelude.{sum_by, slice_get, filter}
+use Rattle.std.proofs.Common.{◌≡◌, ℕ, zero, suc, ◌+◌, ◌*◌, ◌<◌, ◌≤◌, ◌==◌, Bool, true, false, cond, List, [], ◌∷◌, ◌++◌, length, drop, get_or, map, refl, sym, ap, ◌∙◌, arith, append_assoc, append-nil, drop-cons}
+use Rattle.std.specs.Prelude.{sum_by, filter}
 use Rattle.std.specs.List.{range_with_len}
 use Rattle.std.proofs.lemmas.List.{drop_all}
 use Rattle.std.proofs.lemmas.List.Sums.{sum_by-cons, sum_by_push}
@@ -9,7 +9,7 @@ use Rattle.metadata.specs.declared.schema.Column.{Column}
 use Rattle.metadata.specs.declared.schema.ColumnKind.{ColumnKind}
 use Rattle.metadata.specs.Kept.{column_layouts, size_of_columns}
 use Rattle.metadata.specs.Schema.{columns_in, table_number}
-use Rattle.metadata.specs.Tables.{Layout, is_wide, row_size, rows_of, table_at, table_size, width_of}
+use Rattle.metadata.specs.Tables.{Layout, is_wide, table_at, table_size, width_of}
 
 -- ---- tables one after the other
 
@@ -46,7 +46,7 @@ kinds_or true c rest = refl
 kinds_or false c rest = refl
 
 columns_left : (columns : List Column) (i table : ℕ) (d : Column) → i < length columns →
-  columns_in (drop i columns) table ≡ cond (table_number (get_or columns i d).table == table) ((get_or columns i d).kind ∷ columns_in (drop (i + 1) columns) table) (columns_in (drop (i + 1) columns) table)
+    columns_in (drop i columns) table ≡ cond (table_number (get_or columns i d).table == table) ((get_or columns i d).kind ∷ columns_in (drop (i + 1) columns) table) (columns_in (drop (i + 1) columns) table)
 columns_left columns i table d lt =
     let next : suc i ≡ i + 1 = omega arith in
     ap (λ l. columns_in l table) (drop-cons columns i d lt)
@@ -78,9 +78,9 @@ rowed_other layout columns table i list size d lt other r =
 width_few : (layout : Layout) (kind : ColumnKind) → width_of layout kind ≤ 4
 width_few layout kind = bound (is_wide layout kind)
   where
-  bound : (b : Bool) → cond b 4 2 ≤ 4
-  bound true = omega arith
-  bound false = omega arith
+    bound : (b : Bool) → cond b 4 2 ≤ 4
+    bound true = omega arith
+    bound false = omega arith
 
 pub rowed_more : (layout : Layout) (columns : List Column) (table i : ℕ) (list : List ColumnLayout) (size : ℕ) (d : Column) → i < length columns → (table_number (get_or columns i d).table == table) ≡ true → Rowed layout columns table i list size → Rowed layout columns table (i + 1) (list ++ record { kind = (get_or columns i d).kind; wide = is_wide layout (get_or columns i d).kind; offset = size } ∷ []) (size + width_of layout (get_or columns i d).kind)
 rowed_more layout columns table i list size d lt same r =
@@ -93,9 +93,9 @@ rowed_more layout columns table i list size d lt same r =
     let narrow = width_few layout kind in
     record {
       list_is =
-        append_assoc list (record { kind = kind; wide = is_wide layout kind; offset = size } ∷ []) (column_layouts layout (size + width_of layout kind) kinds)
-        ∙ ap (λ ks. list ++ column_layouts layout size ks) (sym left)
-        ∙ r.list_is;
+          append_assoc list (record { kind = kind; wide = is_wide layout kind; offset = size } ∷ []) (column_layouts layout (size + width_of layout kind) kinds)
+          ∙ ap (λ ks. list ++ column_layouts layout size ks) (sym left)
+          ∙ r.list_is;
       size_is = omega (arith, size_is, left_size);
       few = omega (arith, few, narrow);
     }

@@ -1,5 +1,5 @@
 -- Tables, rows and columns at their places.
-use Rattle.std.proofs.Common.{◌≡◌, ℕ, zero, suc, ◌+◌, ◌-◌, ◌*◌, ◌^◌, ◌<◌, ◌≤◌, ◌⊎◌, inl, inr, Bool, true, false, cond, List, [], ◌∷◌, ◌++◌, length, take, drop, get_or, map, Option, Some, None, Ok, Err, not, ◌&&◌, refl, sym, ap, ◌∙◌, subst, arith, length-append}
+use Rattle.std.proofs.Common.{◌≡◌, ℕ, zero, suc, ◌+◌, ◌-◌, ◌*◌, ◌^◌, ◌<◌, ◌≤◌, ◌⊎◌, inl, inr, Bool, true, false, cond, List, [], ◌∷◌, ◌++◌, length, take, get_or, map, Option, Some, None, Ok, Err, not, ◌&&◌, refl, sym, ap, ◌∙◌, subst, arith, length-append}
 use Rattle.std.specs.Prelude.{sum_by, slice_get, nat_le, nat_lt, unwrap_or}
 use Rattle.std.proofs.lemmas.Bool.{le-leb, lt-leb}
 use Rattle.std.proofs.lemmas.List.Sums.{sum_by-cons}
@@ -58,7 +58,7 @@ placed_more layout stream n at next tables table p small next_is fits number at_
     record {
       count = length-append tables (table ∷ []) ∙ (let e : length tables + 1 ≡ n + 1 = omega arith in e);
       so_far = λ k t h. elim (get_push tables table k t h) [
-          inl before ↦ p.so_far k t before
+        | inl before ↦ p.so_far k t before
         | inr (last, same) ↦ subst (λ t. IsTable layout k t) same (subst (λ j. IsTable layout j table) (sym (last ∙ count)) this)
       ];
       at_is = omega (arith, more, here, product_is);
@@ -175,20 +175,22 @@ number_is bytes layout n row c column place number is at e =
 pub column_bad : (bytes : List ℕ) (layout : Layout) (n row c : ℕ) (kind : ColumnKind) (number place : ℕ) (fault : Fault) (falls before : Option ℕ) → kind ≡ kind_of n c → number ≡ number_of bytes layout n row c → place ≡ column_at layout n row c → is_valid bytes layout kind number ≡ false → fault ≡ record { check = 42; place = place } → IsJudged (bad_column bytes layout n row c) falls before (Err fault)
 column_bad bytes layout n row c kind number place fault falls before kind_is number_same place_same bad e =
     let here : is_valid bytes layout (kind_of n c) (number_of bytes layout n row c) ≡ false =
-      ap (λ k. is_valid bytes layout k (number_of bytes layout n row c)) (sym kind_is) ∙ ap (is_valid bytes layout kind) (sym number_same) ∙ bad in
-    (ap (λ f. f.check) e,
-    ap (λ b. holds_or b (column_at layout n row c)) here ∙ ap Some (sym place_same) ∙ ap (λ f. Some f.place) (sym e))
+    ap (λ k. is_valid bytes layout k (number_of bytes layout n row c)) (sym kind_is) ∙ ap (is_valid bytes layout kind) (sym number_same) ∙ bad in (
+      ap (λ f. f.check) e,
+      ap (λ b. holds_or b (column_at layout n row c)) here ∙ ap Some (sym place_same) ∙ ap (λ f. Some f.place) (sym e),
+    )
 
 pub column_good : (bytes : List ℕ) (layout : Layout) (n row c : ℕ) (table : TableLayout) (column : ColumnLayout) (number place : ℕ) (fell : Bool) (before after : Option ℕ) → IsTable layout n table → IsColumn layout n c column → number ≡ number_of bytes layout n row c → place ≡ column_at layout n row c → is_valid bytes layout column.kind number ≡ true → fell ≡ falls_from bytes table.at table.row.size row column number → after ≡ or_else before (holds_or (not fell) place) → IsJudged (bad_column bytes layout n row c) (fallen_column bytes layout n row c) before (Ok after)
 column_good bytes layout n row c table column number place fell before after t is number_same place_same good fell_is after_is =
     let here : is_valid bytes layout (kind_of n c) (number_of bytes layout n row c) ≡ true =
-      ap (λ k. is_valid bytes layout k (number_of bytes layout n row c)) (sym is.kind) ∙ ap (is_valid bytes layout column.kind) (sym number_same) ∙ good in
+    ap (λ k. is_valid bytes layout k (number_of bytes layout n row c)) (sym is.kind) ∙ ap (is_valid bytes layout column.kind) (sym number_same) ∙ good in
     let earlier : unwrap_or (field_at (width column.wide) bytes (table.at + (row - 1 - 1) * table.row.size + column.offset)) 0 ≡ number_of bytes layout n (row - 1) c =
-      number_is bytes layout n (row - 1) c column (table.at + (row - 1 - 1) * table.row.size + column.offset) _ is (place_is layout n table (row - 1) c column _ t is refl) refl in
+    number_is bytes layout n (row - 1) c column (table.at + (row - 1 - 1) * table.row.size + column.offset) _ is (place_is layout n table (row - 1) c column _ t is refl) refl in
     let same : fell ≡ ((is_list (kind_of n c) && nat_lt 1 row) && falls bytes layout n row c) =
-      fell_is
-      ∙ ap (λ k. (is_list k && nat_lt 1 row) && nat_lt number (unwrap_or (field_at (width column.wide) bytes (table.at + (row - 1 - 1) * table.row.size + column.offset)) 0)) is.kind
-      ∙ ap (λ m. (is_list (kind_of n c) && nat_lt 1 row) && nat_lt number m) earlier
-      ∙ ap (λ m. (is_list (kind_of n c) && nat_lt 1 row) && nat_lt m (number_of bytes layout n (row - 1) c)) number_same in
-    (ap (λ b. holds_or b (column_at layout n row c)) here,
-    after_is ∙ ap (λ b. or_else before (holds_or (not b) place)) same ∙ ap (λ p. or_else before (holds_or (not ((is_list (kind_of n c) && nat_lt 1 row) && falls bytes layout n row c)) p)) place_same)
+    fell_is
+    ∙ ap (λ k. (is_list k && nat_lt 1 row) && nat_lt number (unwrap_or (field_at (width column.wide) bytes (table.at + (row - 1 - 1) * table.row.size + column.offset)) 0)) is.kind
+    ∙ ap (λ m. (is_list (kind_of n c) && nat_lt 1 row) && nat_lt number m) earlier
+    ∙ ap (λ m. (is_list (kind_of n c) && nat_lt 1 row) && nat_lt m (number_of bytes layout n (row - 1) c)) number_same in (
+      ap (λ b. holds_or b (column_at layout n row c)) here,
+      after_is ∙ ap (λ b. or_else before (holds_or (not b) place)) same ∙ ap (λ p. or_else before (holds_or (not ((is_list (kind_of n c) && nat_lt 1 row) && falls bytes layout n row c)) p)) place_same,
+    )

@@ -1,5 +1,5 @@
 -- Where a text begins, by the places after it.
-use Rattle.std.proofs.Common.{◌≡◌, ℕ, zero, suc, ◌+◌, ◌-◌, ◌<◌, ◌≤◌, ◌==◌, ◌⊎◌, inl, inr, Bool, true, false, not, cond, ◌&&◌, List, [], ◌∷◌, ◌++◌, length, take, drop, get_or, Option, Some, None, refl, sym, ap, ◌∙◌, subst, arith, append_assoc, drop-cons, length-append}
+use Rattle.std.proofs.Common.{◌≡◌, ℕ, suc, ◌+◌, ◌<◌, ◌≤◌, ◌==◌, inl, inr, Bool, true, false, not, cond, ◌&&◌, List, [], ◌∷◌, ◌++◌, length, take, drop, get_or, Some, None, refl, sym, ap, ◌∙◌, subst, arith, append_assoc, drop-cons, length-append}
 use Rattle.std.specs.Prelude.{◌||◌, is_some, position, nat_lt}
 use Rattle.std.specs.Char.{IsScalar, len_utf8}
 use Rattle.std.specs.List.{list_any, position_or_len}
@@ -66,13 +66,13 @@ any_step x xs e f = ap (λ b. b || list_any is_zero xs) e ∙ f
 split_of : (bytes : List ℕ) → position_or_len is_zero bytes < length bytes → Split bytes
 split_of [] h = absurd (omega arith)
 split_of (x ∷ xs) h = elim (cases_eq x 0) [
-    inl e ↦ record { text = []; rest = xs; split = ap (λ y. y ∷ xs) e; nonzero = refl; place = place_here x xs (eq-eqb x 0 e) }
+  | inl e ↦ record { text = []; rest = xs; split = ap (λ y. y ∷ xs) e; nonzero = refl; place = place_here x xs (eq-eqb x 0 e) }
   | inr ne ↦
       let other = ne_eqb x 0 ne in
       let step = place_step x xs other in
       let ih = split_of xs (omega (arith, step)) in
       record { text = x ∷ ih.text; rest = ih.rest; split = ap (λ l. x ∷ l) ih.split; nonzero = any_step x ih.text other ih.nonzero; place = step ∙ (let p = ih.place in omega (arith, p)) }
-  ]
+]
 
 place_of : (text rest : List ℕ) → list_any is_zero text ≡ false → position_or_len is_zero (text ++ 0 ∷ rest) ≡ length text
 place_of [] rest e = refl
@@ -116,13 +116,13 @@ no_text bytes ge = ap (λ b. is_some (option_and_then (λ n. text_of (take n byt
 
 has_text : (bytes : List ℕ) → is_some (text_in bytes) ≡ true → HasText bytes
 has_text bytes some = elim (cases_lt (position_or_len is_zero bytes) (length bytes)) [
-    inl lt ↦
+  | inl lt ↦
       let s = split_of bytes lt in
       let front : take (position_or_len is_zero bytes) bytes ≡ s.text = ap (λ n. take n bytes) s.place ∙ ap (λ l. take (length s.text) l) s.split ∙ take_front s.text (0 ∷ s.rest) in
       let utf8 : is_utf8 s.text ≡ true = ap is_utf8 (sym front) ∙ sym (text_at bytes (position_or_len is_zero bytes) refl lt) ∙ some in
       record { text = s.text; rest = s.rest; split = s.split; nonzero = s.nonzero; utf8 = IsUtf8-from_is_utf8 s.text utf8 }
   | inr ge ↦ let none = no_text bytes ge in absurd (let x : ⊥ = cc in x)
-  ]
+]
 
 text_is_in : (bytes : List ℕ) → HasText bytes → is_some (text_in bytes) ≡ true
 text_is_in bytes t =
@@ -190,9 +190,9 @@ first_char bytes t (c ∷ cs) ok e some =
 first_of_text : (b : ℕ) (bytes : List ℕ) → 0 < b → HasText (b ∷ bytes) → FirstChar (b ∷ bytes)
 first_of_text b bytes some t = first_char (b ∷ bytes) t t.utf8.0 t.utf8.1.0 t.utf8.1.1 (has_some t.text t.split)
   where
-  has_some : (text : List ℕ) → b ∷ bytes ≡ text ++ 0 ∷ t.rest → 0 < length text
-  has_some [] e = absurd (let h = ap (λ l. get_or l 0 0) e in omega (arith, h))
-  has_some (x ∷ xs) e = omega arith
+    has_some : (text : List ℕ) → b ∷ bytes ≡ text ++ 0 ∷ t.rest → 0 < length text
+    has_some [] e = absurd (let h = ap (λ l. get_or l 0 0) e in omega (arith, h))
+    has_some (x ∷ xs) e = omega arith
 
 on_by_char : (b : ℕ) (bytes : List ℕ) (f : FirstChar (b ∷ bytes)) → goes_on (len_utf8 f.char) (b ∷ bytes) ≡ true
 on_by_char b bytes f =
@@ -215,53 +215,54 @@ ascii_test b some small =
 pub after_ascii : (b : ℕ) (bytes : List ℕ) → 0 < b → b < 128 → is_some (text_in (b ∷ bytes)) ≡ is_some (text_in bytes)
 after_ascii b bytes some small = same_test (is_some (text_in (b ∷ bytes))) (is_some (text_in bytes))
     (λ h.
-      let f = first_of_text b bytes some (has_text (b ∷ bytes) h) in
-      let c : f.char ≡ b = char_from_byte (b ∷ bytes) f.more f.char f.split small (omega arith) in
-      let same : b ∷ bytes ≡ b ∷ f.more = f.split ∙ ap (λ x. encode x ++ f.more) c ∙ ap (λ l. l ++ f.more) (encode_ascii b small) in
-      let rest : bytes ≡ f.more = cc in
-      ap (λ l. is_some (text_in l)) rest ∙ text_is_in f.more f.text)
+    let f = first_of_text b bytes some (has_text (b ∷ bytes) h) in
+    let c : f.char ≡ b = char_from_byte (b ∷ bytes) f.more f.char f.split small (omega arith) in
+    let same : b ∷ bytes ≡ b ∷ f.more = f.split ∙ ap (λ x. encode x ++ f.more) c ∙ ap (λ l. l ++ f.more) (encode_ascii b small) in
+    let rest : bytes ≡ f.more = cc in
+    ap (λ l. is_some (text_in l)) rest ∙ text_is_in f.more f.text)
     (λ h. went_on 1 (b ∷ bytes) (and_from _ _ h (ascii_test b some small)))
 
 sized : (n : ℕ) (P : ℕ → Bool) → 1 < n → n ≤ 4 → P n ≡ true → ((P 2 || P 3) || P 4) ≡ true
 sized n P low high e = elim (cases_eq n 2) [
-    inl two ↦ or_left (P 2 || P 3) (P 4) (or_left (P 2) (P 3) (ap P (sym two) ∙ e))
+  | inl two ↦ or_left (P 2 || P 3) (P 4) (or_left (P 2) (P 3) (ap P (sym two) ∙ e))
   | inr not_two ↦ elim (cases_eq n 3) [
-      inl three ↦ or_left (P 2 || P 3) (P 4) (or_right (P 2) (P 3) (ap P (sym three) ∙ e))
+    | inl three ↦ or_left (P 2 || P 3) (P 4) (or_right (P 2) (P 3) (ap P (sym three) ∙ e))
     | inr not_three ↦
         let four : n ≡ 4 = omega arith in
         or_right (P 2 || P 3) (P 4) (ap P (sym four) ∙ e)
-    ]
   ]
+]
 
 not_ascii : (b : ℕ) (bytes : List ℕ) (f : FirstChar (b ∷ bytes)) → 127 < b → 1 < len_utf8 f.char
 not_ascii b bytes f big = elim (cases_lt f.char 128) [
-    inl small ↦
+  | inl small ↦
       let first = ap (λ l. get_or l 0 0) (f.split ∙ ap (λ l. l ++ f.more) (encode_ascii f.char small)) in
       absurd (omega (arith, first))
   | inr large ↦
       let one : (nat_lt f.char 0x80) ≡ false = le-ltb _ _ large in
       long f.char one
-  ]
+]
   where
-  two_or_more : (p q : Bool) → 1 < cond p 2 (cond q 3 4)
-  two_or_more true q = omega arith
-  two_or_more false true = omega arith
-  two_or_more false false = omega arith
-  long : (c : ℕ) → nat_lt c 0x80 ≡ false → 1 < len_utf8 c
-  long c e = subst (λ b. 1 < cond b 1 (cond (nat_lt c 0x800) 2 (cond (nat_lt c 0x1_0000) 3 4))) (sym e) (two_or_more (nat_lt c 0x800) (nat_lt c 0x1_0000))
+    two_or_more : (p q : Bool) → 1 < cond p 2 (cond q 3 4)
+    two_or_more true q = omega arith
+    two_or_more false true = omega arith
+    two_or_more false false = omega arith
+
+    long : (c : ℕ) → nat_lt c 0x80 ≡ false → 1 < len_utf8 c
+    long c e = subst (λ b. 1 < cond b 1 (cond (nat_lt c 0x800) 2 (cond (nat_lt c 0x1_0000) 3 4))) (sym e) (two_or_more (nat_lt c 0x800) (nat_lt c 0x1_0000))
 
 after_lead : (b : ℕ) (bytes : List ℕ) → 127 < b → is_some (text_in (b ∷ bytes)) ≡ begins_by_lead (b ∷ bytes)
 after_lead b bytes big = same_test _ _
     (λ h.
-      let f = first_of_text b bytes (omega arith) (has_text (b ∷ bytes) h) in
-      sized (len_utf8 f.char) (λ n. goes_on n (b ∷ bytes)) (not_ascii b bytes f big) (len_utf8_bounds f.char).1 (on_by_char b bytes f))
+    let f = first_of_text b bytes (omega arith) (has_text (b ∷ bytes) h) in
+    sized (len_utf8 f.char) (λ n. goes_on n (b ∷ bytes)) (not_ascii b bytes f big) (len_utf8_bounds f.char).1 (on_by_char b bytes f))
     (λ h. elim (or_cases (goes_on 2 (b ∷ bytes) || goes_on 3 (b ∷ bytes)) (goes_on 4 (b ∷ bytes)) h) [
-        inl less ↦ elim (or_cases (goes_on 2 (b ∷ bytes)) (goes_on 3 (b ∷ bytes)) less) [
-          inl two ↦ went_on 2 (b ∷ bytes) two
+      | inl less ↦ elim (or_cases (goes_on 2 (b ∷ bytes)) (goes_on 3 (b ∷ bytes)) less) [
+        | inl two ↦ went_on 2 (b ∷ bytes) two
         | inr three ↦ went_on 3 (b ∷ bytes) three
-        ]
+      ]
       | inr four ↦ went_on 4 (b ∷ bytes) four
-      ])
+    ])
 
 -- ---- by place
 

@@ -1,6 +1,6 @@
 -- The heaps of metadata (ECMA-335 II.24.2.3 and II.24.2.4), and what a column's number names.
-use Rattle.std.specs.Prelude.{ℕ, ◌+◌, ◌-◌, ◌*◌, ◌/◌, ◌%◌, ◌^◌, ◌==◌, ◌||◌, Bool, true, List, [], length, take, drop, position, find, Option, Some, None, nat_le, nat_lt, if◌then◌else◌, is_some}
-use Rattle.std.specs.Option.{option_map, option_and_then}
+use Rattle.std.specs.Prelude.{ℕ, ◌+◌, ◌-◌, ◌*◌, ◌/◌, ◌%◌, ◌^◌, ◌==◌, Bool, true, List, [], length, take, drop, position, Option, Some, None, nat_le, if◌then◌else◌, is_some}
+use Rattle.std.specs.Option.{option_and_then}
 use Rattle.std.specs.Str.{is_utf8}
 use Rattle.rtr_bytes.specs.declared.fault.Span.{Span}
 use Rattle.rtr_bytes.specs.Compressed.{compressed_in}
@@ -8,7 +8,6 @@ use Rattle.metadata.specs.declared.schema.Heap.{Heap}
 use Rattle.metadata.specs.declared.schema.Heap.TheVariants as heaps
 use Rattle.metadata.specs.declared.schema.Table.{Table}
 use Rattle.metadata.specs.declared.schema.CodedKind.{CodedKind}
-use Rattle.metadata.specs.declared.schema.CodedKind.TheVariants as kinds
 use Rattle.metadata.specs.declared.schema.ColumnKind.{ColumnKind}
 use Rattle.metadata.specs.declared.schema.ColumnKind.TheVariants as columns
 use Rattle.metadata.specs.Schema.{kind_numbered, table_number, tag_bits, tagged_table}

@@ -22,4 +22,3 @@ goes_on size bytes = is_some (text_in (drop size bytes)) && is_text (take size b
 -- a character of more than one byte begins a text
 abbrev pub begins_by_lead : List ℕ → Bool
 begins_by_lead bytes = (goes_on 2 bytes || goes_on 3 bytes) || goes_on 4 bytes
-

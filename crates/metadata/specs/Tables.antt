@@ -1,5 +1,5 @@
 -- The tables of metadata (ECMA-335 II.24.2.6), each column of each row by its place.
-use Rattle.std.specs.Prelude.{ℕ, ◌+◌, ◌-◌, ◌*◌, ◌/◌, ◌%◌, ◌^◌, ◌==◌, ◌&&◌, ◌||◌, Bool, true, false, not, List, [], ◌∷◌, length, map, take, get_or, filter, count_by, sum_by, Option, Some, None, nat_lt, nat_le, if◌then◌else◌, unwrap_or, slice_index}
+use Rattle.std.specs.Prelude.{ℕ, ◌+◌, ◌-◌, ◌*◌, ◌/◌, ◌%◌, ◌^◌, ◌==◌, ◌&&◌, Bool, true, false, not, List, length, map, take, get_or, filter, count_by, sum_by, Option, Some, None, nat_lt, nat_le, if◌then◌else◌, unwrap_or, slice_index}
 use Rattle.std.specs.List.{list_all, range_with_len}
 use Rattle.rtr_bytes.specs.declared.fault.Span.{Span}
 use Rattle.rtr_bytes.specs.Field.{field_at, u32_of}

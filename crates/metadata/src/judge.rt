@@ -108,7 +108,7 @@ impl<'a> Judge<'a> {
         requires last { row ≤ table.now.rows }
         requires column { index < length table.now.row.columns.items }
         ensures { IsJudged (bad_column self.now.bytes.now self.now.places.now table.now.number row index)
-          (fallen_column self.now.bytes.now self.now.places.now table.now.number row index) fallen result }
+            (fallen_column self.now.bytes.now self.now.places.now table.now.number row index) fallen result }
     {
         let column = table.row.columns[index];
         let place = table.row_at(row) + column.offset;
@@ -134,7 +134,7 @@ impl<'a> Judge<'a> {
         requires first { 1 ≤ row }
         requires last { row ≤ table.now.rows }
         ensures { IsJudged (first_in_row (bad_column self.now.bytes.now self.now.places.now) table.now.number row)
-          (first_in_row (fallen_column self.now.bytes.now self.now.places.now) table.now.number row) fallen result }
+            (first_in_row (fallen_column self.now.bytes.now self.now.places.now) table.now.number row) fallen result }
     {
         for index in 0..table.row.columns.len() {
             fallen = self.check_column(table, row, index, fallen)?;
@@ -151,7 +151,7 @@ impl<'a> Judge<'a> {
         requires ready { IsReady self.now }
         requires table { IsTable self.now.places.now table.now.number table.now }
         ensures { IsJudged (first_in_table self.now.places.now (bad_column self.now.bytes.now self.now.places.now) table.now.number)
-          (first_in_table self.now.places.now (fallen_column self.now.bytes.now self.now.places.now) table.now.number) fallen result }
+            (first_in_table self.now.places.now (fallen_column self.now.bytes.now self.now.places.now) table.now.number) fallen result }
     {
         for index in 0..table.rows {
             fallen = self.check_row(table, index + 1, fallen)?;
@@ -164,7 +164,7 @@ impl<'a> Judge<'a> {
         requires ready { IsReady self.now }
         requires tables { AreTables self.now.places.now tables.now }
         ensures { IsJudged (first_column self.now.places.now (bad_column self.now.bytes.now self.now.places.now))
-          (first_column self.now.places.now (fallen_column self.now.bytes.now self.now.places.now)) None result }
+            (first_column self.now.places.now (fallen_column self.now.bytes.now self.now.places.now)) None result }
     {
         let mut fallen = None;
         for table in tables {

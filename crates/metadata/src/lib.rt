@@ -15,4 +15,6 @@ mod texts;
 
 pub use laws::tables_are_lists_of_rows;
 pub use metadata::Metadata;
-pub use schema::{CODED_KINDS, CODED_TABLES, COLUMNS, CodedKind, CodedTable, Column, ColumnKind, Heap, Table};
+pub use schema::{
+    CODED_KINDS, CODED_TABLES, COLUMNS, CodedKind, CodedTable, Column, ColumnKind, Heap, Table,
+};

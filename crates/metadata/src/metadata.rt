@@ -47,7 +47,8 @@ fn check_one_assembly(places: &Places, stream: Span) -> Result<(), Fault>
     ensures fault { IfErr result (λ f. one_fault stream places.now ≡ Some f) }
     ensures ok { OnOk result (one_fault stream places.now ≡ None) }
 {
-    let one = places.rows(Table::Module.number()) == 1 && places.rows(Table::Assembly.number()) == 1;
+    let one = places.rows(Table::Module.number()) == 1
+        && places.rows(Table::Assembly.number()) == 1;
     ensure(one, Check::OneAssembly as u16, stream.start + 8)
 }
 

@@ -203,9 +203,8 @@ impl Places {
 fn tagged_table_in(tagged: &[CodedTable], kind: CodedKind, tag: u32) -> Option<Table>
     ensures { result ≡ tagged_table_in tagged.now kind tag }
 {
-    let found = tagged
-        .iter()
-        .find(|t| t.kind.number() == kind.number() && u32::from(t.tag) == tag)?;
+    let found = tagged.iter().find(|t| t.kind.number() == kind.number()
+        && u32::from(t.tag) == tag)?;
     Some(found.table)
 }
 

@@ -6,7 +6,7 @@ use Rattle.metadata.proofs.heaps.text_at.Goals as goal
 pub returns-in_err-len : goal.returns-in_err-len
 returns-in_err-len c =
     let none : text_in (drop c.args.at c.args.heap.now) ≡ None =
-      ap text_in (sym c.rest_of-rest.ensures) ∙ text_without_zero c.rest_of-rest.result.now (sym c.in_err-len.ensures) in
+    ap text_in (sym c.rest_of-rest.ensures) ∙ text_without_zero c.rest_of-rest.result.now (sym c.in_err-len.ensures) in
     search (rules, none)
 
 pub returns : goal.returns

@@ -1,4 +1,3 @@
-use Rattle.std.proofs.Common.{◌≡◌}
 use Rattle.metadata.proofs.ListsOfRows.{column_in, columns_in_row, rows_in}
 use Rattle.metadata.proofs.laws.tables_are_lists_of_rows.Goals as goal
 

@@ -1,4 +1,4 @@
-use Rattle.std.proofs.Common.{rules, ◌≡◌, ◌+◌, ◌*◌, ◌^◌, ◌<◌, ◌≤◌, ◌∷◌, [], ◌++◌, ℕ, List, Some, refl, sym, ap, ◌∙◌, subst, arith}
+use Rattle.std.proofs.Common.{rules, ◌≡◌, ◌+◌, ◌*◌, List, Some, refl, sym, ap, ◌∙◌, subst, arith}
 use Rattle.std.proofs.lemmas.Bool.{leb-false, leb-true}
 use Rattle.metadata.specs.declared.layout.TableLayout.{TableLayout}
 use Rattle.metadata.specs.Kept.{fit_fault}
@@ -28,11 +28,11 @@ returns-in_err-ensure-clause-malformed c =
     let said = c.in_err-ensure.ensures.fault in
     let long = leb-false _ _ said.0 in
     let next : c.from-in-loop-number.result * c.from-in-loop-number-2.result ≡ c.rows-rows.result * c.in_ok-row.row.size =
-      ap (λ x. x * c.from-in-loop-number-2.result) c.from-in-loop-number.ensures ∙ ap (λ x. c.rows-rows.result * x) c.from-in-loop-number-2.ensures in
+    ap (λ x. x * c.from-in-loop-number-2.result) c.from-in-loop-number.ensures ∙ ap (λ x. c.rows-rows.result * x) c.from-in-loop-number-2.ensures in
     let fault : fit_fault c.args.stream c.args.places.now ≡ Some c.in_err-ensure.field-0.0 =
-      one_too_long c.args.places.now c.args.stream c.loop-number.number c.loop-number.at c.loop-number.tables.items c.rows-rows.result c.in_ok-row.row.size
-      (omega arith) c.loop-number.invariant c.rows-rows.ensures.rows c.in_ok-row.ensures.size (omega (arith, at, end, long, next))
-      ∙ ap Some (sym said.1) in
+    one_too_long c.args.places.now c.args.stream c.loop-number.number c.loop-number.at c.loop-number.tables.items c.rows-rows.result c.in_ok-row.row.size
+    (omega arith) c.loop-number.invariant c.rows-rows.ensures.rows c.in_ok-row.ensures.size (omega (arith, at, end, long, next))
+    ∙ ap Some (sym said.1) in
     search (rules, fault)
 
 pub loop-number-preserved : goal.loop-number-preserved
@@ -41,10 +41,10 @@ loop-number-preserved c =
     let end = c.from-in-loop-number-3.ensures in
     let fits = leb-true _ _ c.in_ok-ensure.ensures.holds in
     let next : c.from-in-loop-number.result * c.from-in-loop-number-2.result ≡ c.rows-rows.result * c.in_ok-row.row.size =
-      ap (λ x. x * c.from-in-loop-number-2.result) c.from-in-loop-number.ensures ∙ ap (λ x. c.rows-rows.result * x) c.from-in-loop-number-2.ensures in
+    ap (λ x. x * c.from-in-loop-number-2.result) c.from-in-loop-number.ensures ∙ ap (λ x. c.rows-rows.result * x) c.from-in-loop-number-2.ensures in
     let table : TableLayout = record { number = c.loop-number.number; at = c.loop-number.at; rows = c.rows-rows.result; row = c.in_ok-row.row } in
     let more = placed_more c.args.places.now c.args.stream c.loop-number.number c.loop-number.at
-      (c.from.result + c.from-in-loop-number.result * c.from-in-loop-number-2.result) c.loop-number.tables.items table c.loop-number.invariant c.requires.small
-      (omega (arith, at, next)) (omega (arith, end, fits)) refl refl c.rows-rows.ensures.rows c.in_ok-row.ensures.size c.in_ok-row.ensures.columns in
+    (c.from.result + c.from-in-loop-number.result * c.from-in-loop-number-2.result) c.loop-number.tables.items table c.loop-number.invariant c.requires.small
+    (omega (arith, at, next)) (omega (arith, end, fits)) refl refl c.rows-rows.ensures.rows c.in_ok-row.ensures.size c.in_ok-row.ensures.columns in
     let P : List TableLayout → Type 0 = λ l. Placed c.args.places.now c.args.stream (c.loop-number.number + 1) (c.from.result + c.from-in-loop-number.result * c.from-in-loop-number-2.result) l in
     subst P (sym c.in_ok-push.ensures.items) more

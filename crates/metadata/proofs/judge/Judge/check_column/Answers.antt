@@ -1,10 +1,8 @@
-use Rattle.std.proofs.Common.{rules, ◌≡◌, ℕ, ◌+◌, ◌≤◌, sym, ap, ◌∙◌, subst, arith}
+use Rattle.std.proofs.Common.{rules, ◌+◌, sym, ap, ◌∙◌, subst, arith}
 use Rattle.metadata.specs.declared.layout.ColumnLayout.{ColumnLayout}
 use Rattle.metadata.specs.Checks.{fallen_column}
-use Rattle.metadata.specs.Tables.{column_at, number_of}
 use Rattle.metadata.proofs.Placed.{IsColumn, column_bad, column_good, column_of_table, number_is, place_is, rows_inside}
 use Rattle.metadata.proofs.judge.Judge.check_column.Goals as goal
-
 
 pub overflow_add-place : goal.overflow_add-place
 overflow_add-place c =
@@ -38,7 +36,7 @@ returns-in_err-ensure c =
     let number = number_is c.args.self.now.bytes.now c.args.self.now.places.now c.args.table.now.number c.args.row c.args.index c.index.result.now _ c.number_at-number.result is place c.number_at-number.ensures in
     let said = c.in_err-ensure.ensures.fault in
     let bad = column_bad c.args.self.now.bytes.now c.args.self.now.places.now c.args.table.now.number c.args.row c.args.index c.index.result.now.kind c.number_at-number.result _ c.in_err-ensure.field-0.0
-      (fallen_column c.args.self.now.bytes.now c.args.self.now.places.now c.args.table.now.number c.args.row c.args.index) c.args.fallen is.kind number place (sym c.is_valid.ensures ∙ said.0) said.1 in
+    (fallen_column c.args.self.now.bytes.now c.args.self.now.places.now c.args.table.now.number c.args.row c.args.index) c.args.fallen is.kind number place (sym c.is_valid.ensures ∙ said.0) said.1 in
     search (rules, bad)
 
 pub returns : goal.returns

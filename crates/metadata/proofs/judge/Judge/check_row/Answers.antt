@@ -1,7 +1,6 @@
-use Rattle.std.proofs.Common.{rules, ◌≡◌, ℕ, ◌+◌, ◌<◌, None, length, sym, ap, ◌∙◌, subst, arith}
-use Rattle.metadata.specs.Checks.{bad_column, fallen_column, first_in_row, first_in_table}
+use Rattle.std.proofs.Common.{rules, length, arith}
+use Rattle.metadata.specs.Checks.{bad_column, fallen_column}
 use Rattle.metadata.specs.Schema.{columns_of}
-use Rattle.metadata.specs.Tables.{rows_of}
 use Rattle.metadata.proofs.FirstOf.{judging_all, judging_bad, judging_more}
 use Rattle.metadata.proofs.Placed.{columns_length}
 use Rattle.metadata.proofs.judge.Judge.check_row.Goals as goal

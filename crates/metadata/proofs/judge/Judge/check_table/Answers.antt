@@ -1,9 +1,7 @@
-use Rattle.std.proofs.Common.{rules, ◌≡◌, ℕ, ◌+◌, ◌<◌, None, length, sym, ap, ◌∙◌, subst, arith}
-use Rattle.metadata.specs.Checks.{bad_column, fallen_column, first_in_row, first_in_table}
-use Rattle.metadata.specs.Schema.{columns_of}
+use Rattle.std.proofs.Common.{rules, ◌+◌, arith}
+use Rattle.metadata.specs.Checks.{bad_column, fallen_column, first_in_row}
 use Rattle.metadata.specs.Tables.{rows_of}
 use Rattle.metadata.proofs.FirstOf.{judging_all, judging_bad, judging_more}
-use Rattle.metadata.proofs.Placed.{columns_length}
 use Rattle.metadata.proofs.judge.Judge.check_table.Goals as goal
 
 pub returns-in_err-fallen : goal.returns-in_err-fallen

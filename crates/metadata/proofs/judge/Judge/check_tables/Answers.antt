@@ -1,11 +1,10 @@
-use Rattle.std.proofs.Common.{rules, ◌≡◌, ℕ, ◌+◌, ◌<◌, None, List, length, get_or, refl, sym, ap, ◌∙◌, subst, arith}
+use Rattle.std.proofs.Common.{rules, ◌≡◌, ℕ, ◌+◌, ◌<◌, None, List, length, get_or, refl, sym, subst, arith}
 use Rattle.metadata.specs.Checks.{bad_column, fallen_column, first_column, first_in_table}
 use Rattle.std.proofs.lemmas.Option.{slice_get_read}
 use Rattle.metadata.specs.declared.layout.TableLayout.{TableLayout}
 use Rattle.metadata.specs.Kept.{AreTables, IsTable}
 use Rattle.metadata.specs.Tables.{Layout}
 use Rattle.metadata.proofs.FirstOf.{judging_all, judging_bad, judging_more}
-use Rattle.metadata.proofs.Placed.{columns_length}
 use Rattle.metadata.proofs.judge.Judge.check_tables.Goals as goal
 
 -- the number of the table at an index

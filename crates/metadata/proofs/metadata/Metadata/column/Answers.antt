@@ -1,11 +1,10 @@
-use Rattle.std.proofs.Common.{rules, ◌≡◌, ℕ, ◌≤◌, ◌+◌, List, Some, None, sym, ap, ◌∙◌, subst, arith}
+use Rattle.std.proofs.Common.{rules, ◌≡◌, ℕ, ◌+◌, List, Some, None, sym, ap, ◌∙◌, arith}
 use Rattle.std.specs.Prelude.{slice_get}
-use Rattle.metadata.specs.declared.layout.ColumnLayout.{ColumnLayout}
 use Rattle.metadata.specs.declared.layout.TableLayout.{TableLayout}
 use Rattle.metadata.specs.Kept.{AreTables, IsTable}
 use Rattle.metadata.specs.Tables.{Layout, column_of}
 use Rattle.metadata.proofs.ColumnOf.{no_column, no_first_row, no_row, no_table, nth_is, the_column}
-use Rattle.metadata.proofs.Placed.{IsColumn, number_is, place_is, rows_inside}
+use Rattle.metadata.proofs.Placed.{number_is, place_is, rows_inside}
 use Rattle.metadata.proofs.metadata.Metadata.column.Goals as goal
 use Rattle.metadata.proofs.metadata.Metadata.column.Goals.{then-row-eq0-via-then-row-eq0, then-row-eq0-via-else-row-eq0+then-row-table}
 
@@ -16,25 +15,25 @@ table_is layout tables items n table are same e = are.each n table (sym (e ∙ a
 pub returns-in_err-table : goal.returns-in_err-table
 returns-in_err-table c =
     let none : column_of c.args.bytes.now c.args.self.now c.args.table c.args.row c.args.column ≡ None =
-      ap (λ l. column_of c.args.bytes.now l c.args.table c.args.row c.args.column) (sym c.self.view_is)
-      ∙ no_table c.args.bytes.now c.self.inside.places c.self.inside.tables.items c.args.table c.args.row c.args.column c.self.invariant (c.in_err-table.ensures ∙ ap (λ l. slice_get l c.args.table) c.deref.ensures.value) in
+    ap (λ l. column_of c.args.bytes.now l c.args.table c.args.row c.args.column) (sym c.self.view_is)
+    ∙ no_table c.args.bytes.now c.self.inside.places c.self.inside.tables.items c.args.table c.args.row c.args.column c.self.invariant (c.in_err-table.ensures ∙ ap (λ l. slice_get l c.args.table) c.deref.ensures.value) in
     search (rules, none)
 
 pub returns-in_err-column : goal.returns-in_err-column
 returns-in_err-column c =
     let t = table_is c.self.inside.places c.deref.result.now c.self.inside.tables.items c.args.table c.in_ok-table.table.now c.self.invariant c.deref.ensures.value c.in_ok-table.ensures in
     let none : column_of c.args.bytes.now c.args.self.now c.args.table c.args.row c.args.column ≡ None =
-      ap (λ l. column_of c.args.bytes.now l c.args.table c.args.row c.args.column) (sym c.self.view_is)
-      ∙ no_column c.args.bytes.now c.self.inside.places c.in_ok-table.table.now c.args.table c.args.row c.args.column t (c.in_err-column.ensures ∙ ap (λ l. slice_get l c.args.column) c.deref-2.ensures.value) in
+    ap (λ l. column_of c.args.bytes.now l c.args.table c.args.row c.args.column) (sym c.self.view_is)
+    ∙ no_column c.args.bytes.now c.self.inside.places c.in_ok-table.table.now c.args.table c.args.row c.args.column t (c.in_err-column.ensures ∙ ap (λ l. slice_get l c.args.column) c.deref-2.ensures.value) in
     search (rules, none)
 
 pub returns-then-row-eq0 : goal.returns-then-row-eq0
 returns-then-row-eq0 c =
     let t = table_is c.self.inside.places c.deref.result.now c.self.inside.tables.items c.args.table c.in_ok-table.table.now c.self.invariant c.deref.ensures.value c.in_ok-table.ensures in
     elim c.then-row-eq0.branch [
-      then-row-eq0-via-then-row-eq0 w ↦ sym (no_first_row c.args.bytes.now c.args.self.now c.args.table c.args.row c.args.column w.if-row-eq0.true)
-    | then-row-eq0-via-else-row-eq0+then-row-table w ↦
-        sym (ap (λ l. column_of c.args.bytes.now l c.args.table c.args.row c.args.column) (sym c.self.view_is) ∙ no_row c.args.bytes.now c.self.inside.places c.in_ok-table.table.now c.args.table c.args.row c.args.column t w.if-row-table.true)
+      | then-row-eq0-via-then-row-eq0 w ↦ sym (no_first_row c.args.bytes.now c.args.self.now c.args.table c.args.row c.args.column w.if-row-eq0.true)
+      | then-row-eq0-via-else-row-eq0+then-row-table w ↦
+          sym (ap (λ l. column_of c.args.bytes.now l c.args.table c.args.row c.args.column) (sym c.self.view_is) ∙ no_row c.args.bytes.now c.self.inside.places c.in_ok-table.table.now c.args.table c.args.row c.args.column t w.if-row-table.true)
     ]
 
 pub row_at-requires-clause-inside : goal.row_at-requires-clause-inside

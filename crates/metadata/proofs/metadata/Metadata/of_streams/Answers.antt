@@ -1,4 +1,4 @@
-use Rattle.std.proofs.Common.{◌≡◌, Option, IfErr, IfOk, OnOk, None, sym, ap, ◌∙◌, subst}
+use Rattle.std.proofs.Common.{◌≡◌, Option, IfErr, IfOk, OnOk, None, ◌∙◌, subst}
 use Rattle.rtr_bytes.specs.declared.fault.Fault.{Fault}
 use Rattle.rtr_bytes.specs.Checks.{RefusedBy}
 use Rattle.metadata.specs.Tables.{Layout}

@@ -1,4 +1,4 @@
-use Rattle.std.proofs.Common.{◌≡◌, ◌≤◌, ◌<◌, ℕ, Bool, false, List, length, drop, get_or}
+use Rattle.std.proofs.Common.{◌≡◌, ◌≤◌, ℕ, Bool, false, List, length, drop, get_or}
 use Rattle.std.specs.Prelude.{is_some}
 use Rattle.metadata.specs.Heaps.{text_in}
 use Rattle.metadata.proofs.texts.Texts.of.Given as goal
