@@ -1,13 +1,13 @@
 -- Row counts, one table at a time.
-use Rattle.std.proofs.Common.{◌≡◌, ℕ, zero, suc, ◌+◌, ◌-◌, ◌*◌, ◌<◌, ◌≤◌, ◌^◌, ◌==◌, Bool, true, false, cond, List, [], ◌∷◌, ◌++◌, length, map, get_or, Option, Some, None, refl, sym, ap, ◌∙◌, subst, arith}
+use Rattle.std.proofs.Common.{◌≡◌, ℕ, zero, suc, ◌+◌, ◌-◌, ◌*◌, ◌<◌, ◌≤◌, ◌^◌, ◌==◌, Bool, true, false, cond, List, [], ◌∷◌, ◌++◌, length, map, get_or, Option, Some, None, refl, sym, ap, ◌∙◌, subst, arith, inl, inr}
 use Rattle.std.specs.Prelude.{find, sum_by, count_by, ◌&&◌, not, nat_lt}
 use Rattle.std.specs.Option.{option_map}
 use Rattle.std.specs.List.{list_all, range_with_len}
-use Rattle.std.proofs.lemmas.Bool.Decides.{nat_tests}
+use Rattle.std.proofs.lemmas.Bool.{cases_lt, le-ltb, lt-ltb}
 use Rattle.std.proofs.lemmas.List.FromFn.{get_or-map-range_with_len, length-map-range_with_len, map-range_with_len_more}
 use Rattle.rtr_bytes.specs.Field.{u32_of}
-use Rattle.metadata.specs.Tables.{count_at, has_table, row_count, tables_below, valid_of}
-use Rattle.metadata.specs.Checks.{first_large, is_large}
+use Rattle.metadata.specs.Tables.{count_at, has_table, row_count, row_counts, tables_below, valid_of}
+use Rattle.metadata.specs.Checks.{all_known, first_large, is_large, table_is_known}
 
 -- ---- what is left of some numbers in a row
 
@@ -67,17 +67,21 @@ below_more valid t =
     let next : t + 1 ≡ suc t = omega arith in
     ap (λ n. count_by (has_table valid) (range_with_len 0 n)) next ∙ sum_range_more (λ x. one (has_table valid x)) 0 t t (omega arith)
 
-pub place_more : (bytes : List ℕ) (at t : ℕ) → has_table (valid_of bytes at) t ≡ true → count_at bytes at (t + 1) ≡ count_at bytes at t + 4
-place_more bytes at t e =
-    let more = below_more (valid_of bytes at) t in
-    let is_one : one (has_table (valid_of bytes at) t) ≡ 1 = ap one e in
-    omega (arith, more, is_one)
+abbrev size : Bool → ℕ
+size b = cond b 4 0
 
-pub place_same : (bytes : List ℕ) (at t : ℕ) → has_table (valid_of bytes at) t ≡ false → count_at bytes at (t + 1) ≡ count_at bytes at t
-place_same bytes at t e =
+four : (b : Bool) → 4 * one b ≡ size b
+four true = refl
+four false = refl
+
+-- a table's count moves the place of the next
+pub place_more : (bytes : List ℕ) (at t valid place step : ℕ) → valid ≡ valid_of bytes at → place ≡ count_at bytes at t → step ≡ size (has_table valid t)
+    → place + step ≡ count_at bytes at (t + 1)
+place_more bytes at t valid place step valid_is place_is step_is =
     let more = below_more (valid_of bytes at) t in
-    let is_none : one (has_table (valid_of bytes at) t) ≡ 0 = ap one e in
-    omega (arith, more, is_none)
+    let fours = four (has_table (valid_of bytes at) t) in
+    let same : size (has_table valid t) ≡ size (has_table (valid_of bytes at) t) = ap (λ v. size (has_table v t)) valid_is in
+    omega (arith, more, fours, same, place_is, step_is)
 
 pub place_first : (bytes : List ℕ) (at : ℕ) → count_at bytes at 0 ≡ at + 24
 unfolding tables_below
@@ -98,13 +102,14 @@ below_small valid (suc t) =
 
 -- ---- counts
 
-pub count_there : (bytes : List ℕ) (at t : ℕ) → has_table (valid_of bytes at) t ≡ true → row_count bytes at t ≡ u32_of bytes (count_at bytes at t)
+pub count_is : (bytes : List ℕ) (at t valid place n : ℕ) → valid ≡ valid_of bytes at → place ≡ count_at bytes at t → n ≡ cond (has_table valid t) (u32_of bytes place) 0
+    → row_count bytes at t ≡ n
 unfolding row_count
-count_there bytes at t e = ap (λ b. cond b (u32_of bytes (count_at bytes at t)) 0) e
+count_is bytes at t valid place n valid_is place_is n_is =
+    sym (n_is ∙ ap (λ v. cond (has_table v t) (u32_of bytes place) 0) valid_is ∙ ap (λ p. cond (has_table (valid_of bytes at) t) (u32_of bytes p) 0) place_is)
 
-pub count_missing : (bytes : List ℕ) (at t : ℕ) → has_table (valid_of bytes at) t ≡ false → row_count bytes at t ≡ 0
-unfolding row_count
-count_missing bytes at t e = ap (λ b. cond b (u32_of bytes (count_at bytes at t)) 0) e
+pub place_small : (bytes : List ℕ) (at t place : ℕ) → place ≡ count_at bytes at t → place ≤ at + 24 + 4 * t
+place_small bytes at t place e = let small = below_small (valid_of bytes at) t in omega (arith, small, e)
 
 pub counts_more : (bytes : List ℕ) (at t n : ℕ) (rows : List ℕ) → rows ≡ map (row_count bytes at) (range_with_len 0 t) → row_count bytes at t ≡ n
     → rows ++ n ∷ [] ≡ map (row_count bytes at) (range_with_len 0 (t + 1))
@@ -112,10 +117,38 @@ counts_more bytes at t n rows e count =
     ap (λ (is : List ℕ). is ++ n ∷ []) e ∙ ap (λ k. map (row_count bytes at) (range_with_len 0 t) ++ k ∷ []) (sym count)
     ∙ sym (map-range_with_len_more (row_count bytes at) 0 t t (omega arith))
 
+pub counts_end : (bytes : List ℕ) (at t : ℕ) (rows : List ℕ) → rows ≡ map (row_count bytes at) (range_with_len 0 t) → t ≡ 64 → rows ≡ row_counts bytes at
+unfolding row_counts
+counts_end bytes at t rows e is = e ∙ ap (λ n. map (row_count bytes at) (range_with_len 0 n)) is
+
 -- a count by its table
-pub count_of : (bytes : List ℕ) (at t : ℕ) (rows : List ℕ) → rows ≡ map (row_count bytes at) (range_with_len 0 64) → t < 64 → (d : ℕ) → get_or rows t d ≡ row_count bytes at t
-count_of bytes at t rows e h d =
+pub count_by_table : (bytes : List ℕ) (at t : ℕ) (rows : List ℕ) → rows ≡ row_counts bytes at → t < 64 → (d : ℕ) → get_or rows t d ≡ row_count bytes at t
+unfolding row_counts
+count_by_table bytes at t rows e h d =
     ap (λ (is : List ℕ). get_or is t d) e ∙ get_or-map-range_with_len (row_count bytes at) 0 64 t t d h (omega arith)
 
-pub counts_length : (bytes : List ℕ) (at : ℕ) (rows : List ℕ) → rows ≡ map (row_count bytes at) (range_with_len 0 64) → length rows ≡ 64
+pub counts_length : (bytes : List ℕ) (at : ℕ) (rows : List ℕ) → rows ≡ row_counts bytes at → length rows ≡ 64
+unfolding row_counts
 counts_length bytes at rows e = ap (λ (is : List ℕ). length is) e ∙ length-map-range_with_len (row_count bytes at) 0 64
+
+-- ---- all tables
+
+pub known_first : (valid : ℕ) → list_all (table_is_known valid) (range_with_len 0 (64 - 0)) ≡ all_known valid
+unfolding all_known
+known_first valid = refl
+
+pub large_first : (bytes : List ℕ) (at : ℕ) → found_of (count_at bytes at) (is_large bytes at) 0 64 ≡ first_large bytes at
+unfolding first_large
+large_first bytes at = refl
+
+pub large_here : (bytes : List ℕ) (at t n : ℕ) → row_count bytes at t ≡ n → 2 ^ 24 ≤ n → is_large bytes at t ≡ true
+large_here bytes at t n e h = let here : 2 ^ 24 ≤ row_count bytes at t = omega (arith, e, h) in rw (le-ltb _ _ here) refl
+
+pub large_not : (bytes : List ℕ) (at t n : ℕ) → row_count bytes at t ≡ n → n < 2 ^ 24 → is_large bytes at t ≡ false
+large_not bytes at t n e h = let here : row_count bytes at t < 2 ^ 24 = omega (arith, e, h) in rw (lt-ltb _ _ here) refl
+
+pub few_more : (bytes : List ℕ) (at t n : ℕ) → row_count bytes at t ≡ n → n < 2 ^ 24 → ((k : ℕ) → k < t → row_count bytes at k < 2 ^ 24) → (k : ℕ) → k < t + 1 → row_count bytes at k < 2 ^ 24
+few_more bytes at t n e h few k k_in = elim (cases_lt k t) [
+    inl below ↦ few k below
+  | inr not_below ↦ let same : row_count bytes at k ≡ row_count bytes at t = ap (row_count bytes at) (omega arith) in omega (arith, same, e, h)
+  ]

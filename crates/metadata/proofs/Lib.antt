@@ -4,3 +4,8 @@ mod Counts
 pub mod Text
 pub mod FirstOf
 pub mod Layouts
+pub mod Blobs
+pub mod Placed
+pub mod ColumnOf
+pub mod Joined
+pub mod ListsOfRows

@@ -1,5 +1,5 @@
 -- Where a text begins, by the places after it.
-use Rattle.std.proofs.Common.{◌≡◌, ℕ, zero, suc, ◌+◌, ◌-◌, ◌<◌, ◌≤◌, ◌==◌, ◌⊎◌, ¬, inl, inr, Bool, true, false, not, cond, ◌&&◌, List, [], ◌∷◌, ◌++◌, length, take, drop, get_or, Option, Some, None, refl, sym, ap, ◌∙◌, subst, arith, append_assoc, length-append}
+use Rattle.std.proofs.Common.{◌≡◌, ℕ, suc, ◌+◌, ◌<◌, ◌≤◌, ◌==◌, inl, inr, Bool, true, false, not, cond, ◌&&◌, List, [], ◌∷◌, ◌++◌, length, take, drop, get_or, Some, None, refl, sym, ap, ◌∙◌, subst, arith, append_assoc, drop-cons, length-append}
 use Rattle.std.specs.Prelude.{◌||◌, is_some, position, nat_lt}
 use Rattle.std.specs.Char.{IsScalar, len_utf8}
 use Rattle.std.specs.List.{list_any, position_or_len}
@@ -7,10 +7,10 @@ use Rattle.std.specs.Option.{option_and_then}
 use Rattle.std.specs.Str.{IsUtf8, is_utf8}
 use Rattle.std.proofs.lemmas.Bool.{and_from, and_parts, cases_Bool, cases_eq, cases_lt, eq-eqb, le-ltb, lt-ltb, ne_eqb, or_cases}
 use Rattle.std.proofs.lemmas.Str.{IsUtf8-append, IsUtf8-encode, IsUtf8-from_is_utf8, IsUtf8-nil, char_from_byte, encode_ascii, is_utf8-from_IsUtf8, len_utf8_bounds, length-encode}
-use Rattle.std.proofs.lemmas.List.{take-append-drop}
+use Rattle.std.proofs.lemmas.List.{drop_all, take-append-drop}
 use lib.Utf8.{encode, encodes, scalar, scalars, low_scalar}
 use Rattle.metadata.specs.Heaps.{text_in, text_of}
-use Rattle.metadata.specs.Kept.{goes_on, is_text}
+use Rattle.metadata.specs.Marks.{begins_by_lead, goes_on, is_text}
 
 -- ---- tests
 
@@ -18,7 +18,7 @@ pub utf8_so : (bytes : List ℕ) → IsUtf8 bytes → is_utf8 bytes ≡ true
 utf8_so bytes u = is_utf8-from_IsUtf8 bytes u
 
 pub utf8_not : (bytes : List ℕ) → (IsUtf8 bytes → ⊥) → is_utf8 bytes ≡ false
-utf8_not bytes no = elim (cases_Bool (is_utf8 bytes)) [ inl yes ↦ absurd (no (IsUtf8-from_is_utf8 bytes yes)) | inr e ↦ e ]
+utf8_not bytes not_text = elim (cases_Bool (is_utf8 bytes)) [ inl e ↦ absurd (not_text (IsUtf8-from_is_utf8 bytes e)) | inr e ↦ e ]
 
 same_test : (a b : Bool) → (a ≡ true → b ≡ true) → (b ≡ true → a ≡ true) → a ≡ b
 same_test true b f g = sym (f refl)
@@ -66,13 +66,13 @@ any_step x xs e f = ap (λ b. b || list_any is_zero xs) e ∙ f
 split_of : (bytes : List ℕ) → position_or_len is_zero bytes < length bytes → Split bytes
 split_of [] h = absurd (omega arith)
 split_of (x ∷ xs) h = elim (cases_eq x 0) [
-    inl e ↦ record { text = []; rest = xs; split = ap (λ y. y ∷ xs) e; nonzero = refl; place = place_here x xs (eq-eqb x 0 e) }
+  | inl e ↦ record { text = []; rest = xs; split = ap (λ y. y ∷ xs) e; nonzero = refl; place = place_here x xs (eq-eqb x 0 e) }
   | inr ne ↦
-      let no = ne_eqb x 0 ne in
-      let step = place_step x xs no in
+      let other = ne_eqb x 0 ne in
+      let step = place_step x xs other in
       let ih = split_of xs (omega (arith, step)) in
-      record { text = x ∷ ih.text; rest = ih.rest; split = ap (λ l. x ∷ l) ih.split; nonzero = any_step x ih.text no ih.nonzero; place = step ∙ (let p = ih.place in omega (arith, p)) }
-  ]
+      record { text = x ∷ ih.text; rest = ih.rest; split = ap (λ l. x ∷ l) ih.split; nonzero = any_step x ih.text other ih.nonzero; place = step ∙ (let p = ih.place in omega (arith, p)) }
+]
 
 place_of : (text rest : List ℕ) → list_any is_zero text ≡ false → position_or_len is_zero (text ++ 0 ∷ rest) ≡ length text
 place_of [] rest e = refl
@@ -116,13 +116,13 @@ no_text bytes ge = ap (λ b. is_some (option_and_then (λ n. text_of (take n byt
 
 has_text : (bytes : List ℕ) → is_some (text_in bytes) ≡ true → HasText bytes
 has_text bytes some = elim (cases_lt (position_or_len is_zero bytes) (length bytes)) [
-    inl lt ↦
+  | inl lt ↦
       let s = split_of bytes lt in
       let front : take (position_or_len is_zero bytes) bytes ≡ s.text = ap (λ n. take n bytes) s.place ∙ ap (λ l. take (length s.text) l) s.split ∙ take_front s.text (0 ∷ s.rest) in
       let utf8 : is_utf8 s.text ≡ true = ap is_utf8 (sym front) ∙ sym (text_at bytes (position_or_len is_zero bytes) refl lt) ∙ some in
       record { text = s.text; rest = s.rest; split = s.split; nonzero = s.nonzero; utf8 = IsUtf8-from_is_utf8 s.text utf8 }
   | inr ge ↦ let none = no_text bytes ge in absurd (let x : ⊥ = cc in x)
-  ]
+]
 
 text_is_in : (bytes : List ℕ) → HasText bytes → is_some (text_in bytes) ≡ true
 text_is_in bytes t =
@@ -190,9 +190,9 @@ first_char bytes t (c ∷ cs) ok e some =
 first_of_text : (b : ℕ) (bytes : List ℕ) → 0 < b → HasText (b ∷ bytes) → FirstChar (b ∷ bytes)
 first_of_text b bytes some t = first_char (b ∷ bytes) t t.utf8.0 t.utf8.1.0 t.utf8.1.1 (has_some t.text t.split)
   where
-  has_some : (text : List ℕ) → b ∷ bytes ≡ text ++ 0 ∷ t.rest → 0 < length text
-  has_some [] e = absurd (let h = ap (λ l. get_or l 0 0) e in omega (arith, h))
-  has_some (x ∷ xs) e = omega arith
+    has_some : (text : List ℕ) → b ∷ bytes ≡ text ++ 0 ∷ t.rest → 0 < length text
+    has_some [] e = absurd (let h = ap (λ l. get_or l 0 0) e in omega (arith, h))
+    has_some (x ∷ xs) e = omega arith
 
 on_by_char : (b : ℕ) (bytes : List ℕ) (f : FirstChar (b ∷ bytes)) → goes_on (len_utf8 f.char) (b ∷ bytes) ≡ true
 on_by_char b bytes f =
@@ -215,53 +215,80 @@ ascii_test b some small =
 pub after_ascii : (b : ℕ) (bytes : List ℕ) → 0 < b → b < 128 → is_some (text_in (b ∷ bytes)) ≡ is_some (text_in bytes)
 after_ascii b bytes some small = same_test (is_some (text_in (b ∷ bytes))) (is_some (text_in bytes))
     (λ h.
-      let f = first_of_text b bytes some (has_text (b ∷ bytes) h) in
-      let c : f.char ≡ b = char_from_byte (b ∷ bytes) f.more f.char f.split small (omega arith) in
-      let same : b ∷ bytes ≡ b ∷ f.more = f.split ∙ ap (λ x. encode x ++ f.more) c ∙ ap (λ l. l ++ f.more) (encode_ascii b small) in
-      let rest : bytes ≡ f.more = cc in
-      ap (λ l. is_some (text_in l)) rest ∙ text_is_in f.more f.text)
+    let f = first_of_text b bytes some (has_text (b ∷ bytes) h) in
+    let c : f.char ≡ b = char_from_byte (b ∷ bytes) f.more f.char f.split small (omega arith) in
+    let same : b ∷ bytes ≡ b ∷ f.more = f.split ∙ ap (λ x. encode x ++ f.more) c ∙ ap (λ l. l ++ f.more) (encode_ascii b small) in
+    let rest : bytes ≡ f.more = cc in
+    ap (λ l. is_some (text_in l)) rest ∙ text_is_in f.more f.text)
     (λ h. went_on 1 (b ∷ bytes) (and_from _ _ h (ascii_test b some small)))
 
-sized : (n : ℕ) (P : ℕ → Bool) → 1 < n → n ≤ 4 → P n ≡ true → (P 2 || (P 3 || P 4)) ≡ true
+sized : (n : ℕ) (P : ℕ → Bool) → 1 < n → n ≤ 4 → P n ≡ true → ((P 2 || P 3) || P 4) ≡ true
 sized n P low high e = elim (cases_eq n 2) [
-    inl two ↦ or_left (P 2) (P 3 || P 4) (ap P (sym two) ∙ e)
+  | inl two ↦ or_left (P 2 || P 3) (P 4) (or_left (P 2) (P 3) (ap P (sym two) ∙ e))
   | inr not_two ↦ elim (cases_eq n 3) [
-      inl three ↦ or_right (P 2) (P 3 || P 4) (or_left (P 3) (P 4) (ap P (sym three) ∙ e))
+    | inl three ↦ or_left (P 2 || P 3) (P 4) (or_right (P 2) (P 3) (ap P (sym three) ∙ e))
     | inr not_three ↦
         let four : n ≡ 4 = omega arith in
-        or_right (P 2) (P 3 || P 4) (or_right (P 3) (P 4) (ap P (sym four) ∙ e))
-    ]
+        or_right (P 2 || P 3) (P 4) (ap P (sym four) ∙ e)
   ]
+]
 
 not_ascii : (b : ℕ) (bytes : List ℕ) (f : FirstChar (b ∷ bytes)) → 127 < b → 1 < len_utf8 f.char
 not_ascii b bytes f big = elim (cases_lt f.char 128) [
-    inl small ↦
+  | inl small ↦
       let first = ap (λ l. get_or l 0 0) (f.split ∙ ap (λ l. l ++ f.more) (encode_ascii f.char small)) in
       absurd (omega (arith, first))
   | inr large ↦
       let one : (nat_lt f.char 0x80) ≡ false = le-ltb _ _ large in
       long f.char one
-  ]
+]
   where
-  two_or_more : (p q : Bool) → 1 < cond p 2 (cond q 3 4)
-  two_or_more true q = omega arith
-  two_or_more false true = omega arith
-  two_or_more false false = omega arith
-  long : (c : ℕ) → nat_lt c 0x80 ≡ false → 1 < len_utf8 c
-  long c e = subst (λ b. 1 < cond b 1 (cond (nat_lt c 0x800) 2 (cond (nat_lt c 0x1_0000) 3 4))) (sym e) (two_or_more (nat_lt c 0x800) (nat_lt c 0x1_0000))
+    two_or_more : (p q : Bool) → 1 < cond p 2 (cond q 3 4)
+    two_or_more true q = omega arith
+    two_or_more false true = omega arith
+    two_or_more false false = omega arith
 
-pub after_lead : (b : ℕ) (bytes : List ℕ) → 127 < b → is_some (text_in (b ∷ bytes)) ≡ (goes_on 2 (b ∷ bytes) || (goes_on 3 (b ∷ bytes) || goes_on 4 (b ∷ bytes)))
+    long : (c : ℕ) → nat_lt c 0x80 ≡ false → 1 < len_utf8 c
+    long c e = subst (λ b. 1 < cond b 1 (cond (nat_lt c 0x800) 2 (cond (nat_lt c 0x1_0000) 3 4))) (sym e) (two_or_more (nat_lt c 0x800) (nat_lt c 0x1_0000))
+
+after_lead : (b : ℕ) (bytes : List ℕ) → 127 < b → is_some (text_in (b ∷ bytes)) ≡ begins_by_lead (b ∷ bytes)
 after_lead b bytes big = same_test _ _
     (λ h.
-      let f = first_of_text b bytes (omega arith) (has_text (b ∷ bytes) h) in
-      sized (len_utf8 f.char) (λ n. goes_on n (b ∷ bytes)) (not_ascii b bytes f big) (len_utf8_bounds f.char).1 (on_by_char b bytes f))
-    (λ h. elim (or_cases (goes_on 2 (b ∷ bytes)) (goes_on 3 (b ∷ bytes) || goes_on 4 (b ∷ bytes)) h) [
-        inl two ↦ went_on 2 (b ∷ bytes) two
-      | inr more ↦ elim (or_cases (goes_on 3 (b ∷ bytes)) (goes_on 4 (b ∷ bytes)) more) [
-          inl three ↦ went_on 3 (b ∷ bytes) three
-        | inr four ↦ went_on 4 (b ∷ bytes) four
-        ]
-      ])
+    let f = first_of_text b bytes (omega arith) (has_text (b ∷ bytes) h) in
+    sized (len_utf8 f.char) (λ n. goes_on n (b ∷ bytes)) (not_ascii b bytes f big) (len_utf8_bounds f.char).1 (on_by_char b bytes f))
+    (λ h. elim (or_cases (goes_on 2 (b ∷ bytes) || goes_on 3 (b ∷ bytes)) (goes_on 4 (b ∷ bytes)) h) [
+      | inl less ↦ elim (or_cases (goes_on 2 (b ∷ bytes)) (goes_on 3 (b ∷ bytes)) less) [
+        | inl two ↦ went_on 2 (b ∷ bytes) two
+        | inr three ↦ went_on 3 (b ∷ bytes) three
+      ]
+      | inr four ↦ went_on 4 (b ∷ bytes) four
+    ])
 
-pub none_at_end : is_some (text_in []) ≡ false
-none_at_end = no_text [] (omega arith)
+-- ---- by place
+
+at_place : (heap : List ℕ) (at : ℕ) → at < length heap → drop at heap ≡ get_or heap at 0 ∷ drop (at + 1) heap
+at_place heap at lt = let next : suc at ≡ at + 1 = omega arith in drop-cons heap at 0 lt ∙ ap (λ k. get_or heap at 0 ∷ drop k heap) next
+
+pub begins_at_zero : (heap : List ℕ) (at : ℕ) → at < length heap → get_or heap at 0 ≡ 0 → is_some (text_in (drop at heap)) ≡ true
+begins_at_zero heap at lt zero_is = ap (λ l. is_some (text_in l)) (at_place heap at lt) ∙ after_zero (get_or heap at 0) (drop (at + 1) heap) zero_is
+
+pub begins_at_ascii : (heap : List ℕ) (at : ℕ) → at < length heap → 0 < get_or heap at 0 → get_or heap at 0 < 128 → is_some (text_in (drop at heap)) ≡ is_some (text_in (drop (at + 1) heap))
+begins_at_ascii heap at lt some small = ap (λ l. is_some (text_in l)) (at_place heap at lt) ∙ after_ascii (get_or heap at 0) (drop (at + 1) heap) some small
+
+pub begins_at_lead : (heap : List ℕ) (at : ℕ) → at < length heap → 127 < get_or heap at 0 → is_some (text_in (drop at heap)) ≡ begins_by_lead (drop at heap)
+begins_at_lead heap at lt big =
+    let here = at_place heap at lt in
+    ap (λ l. is_some (text_in l)) here ∙ after_lead (get_or heap at 0) (drop (at + 1) heap) big ∙ ap begins_by_lead (sym here)
+
+pub none_past_end : (heap : List ℕ) (at : ℕ) → length heap ≤ at → is_some (text_in (drop at heap)) ≡ false
+none_past_end heap at past = ap (λ l. is_some (text_in l)) (drop_all at heap past) ∙ no_text [] (omega arith)
+
+-- ---- a text by the place of its zero
+
+pub text_by_zero : (bytes : List ℕ) (n : ℕ) → position is_zero bytes ≡ Some n → text_in bytes ≡ text_of (take n bytes)
+unfolding text_in
+text_by_zero bytes n e = ap (option_and_then (λ n. text_of (take n bytes))) e
+
+pub text_without_zero : (bytes : List ℕ) → position is_zero bytes ≡ None → text_in bytes ≡ None
+unfolding text_in
+text_without_zero bytes e = ap (option_and_then (λ n. text_of (take n bytes))) e

@@ -1,5 +1,5 @@
 -- The checks of metadata at a range of the file, each computed from the bytes alone.
-use Rattle.std.specs.Prelude.{ℕ, zero, suc, ◌+◌, ◌-◌, ◌*◌, ◌/◌, ◌%◌, ◌^◌, ◌==◌, ◌&&◌, ◌||◌, not, Bool, true, false, List, [], ◌∷◌, ◌++◌, length, map, get_or, find, Option, Some, None, nat_le, nat_lt, is_some, if◌then◌else◌}
+use Rattle.std.specs.Prelude.{ℕ, zero, suc, ◌+◌, ◌-◌, ◌%◌, ◌^◌, ◌==◌, ◌&&◌, ◌||◌, not, Bool, true, false, List, [], ◌∷◌, ◌++◌, length, get_or, find, Option, Some, None, nat_le, nat_lt, is_some}
 use Rattle.std.specs.Option.{option_map}
 use Rattle.std.specs.List.{list_all, list_any, range_with_len}
 use Rattle.rtr_bytes.specs.declared.fault.Span.{Span}
@@ -54,14 +54,17 @@ unknown_heap bytes at = holds_or (nat_lt (heap_sizes_of bytes at) 8) (at + 6)
 abbrev pub table_is_known : ℕ → ℕ → Bool
 table_is_known valid table = not (has_table valid table) || is_known table
 
+unfoldable pub all_known : ℕ → Bool
+all_known valid = list_all (table_is_known valid) (range_with_len 0 64)
+
 abbrev pub unknown_table : List ℕ → ℕ → Option ℕ
-unknown_table bytes at = holds_or (list_all (table_is_known (valid_of bytes at)) (range_with_len 0 64)) (at + 8)
+unknown_table bytes at = holds_or (all_known (valid_of bytes at)) (at + 8)
 
 -- the first count that has more than 24 bits
 abbrev pub is_large : List ℕ → ℕ → ℕ → Bool
 is_large bytes at table = not (nat_lt (row_count bytes at table) (2 ^ 24))
 
-abbrev pub first_large : List ℕ → ℕ → Option ℕ
+unfoldable pub first_large : List ℕ → ℕ → Option ℕ
 first_large bytes at = option_map (count_at bytes at) (find (is_large bytes at) (range_with_len 0 64))
 
 abbrev pub header_checks : Span → List Check
@@ -96,10 +99,15 @@ unfoldable pub first_of : (ℕ → Option ℕ) → ℕ → ℕ → Option ℕ
 first_of answer from zero = None
 first_of answer from (suc n) = or_else (answer from) (first_of answer (from + 1) n)
 
--- by table, then by row, and then by column
+-- the first answer of a row's columns, of a table's rows, and of the tables
+abbrev pub first_in_row : (ℕ → ℕ → ℕ → Option ℕ) → ℕ → ℕ → Option ℕ
+first_in_row answer table row = first_of (answer table row) 0 (length (columns_of table))
+
+abbrev pub first_in_table : Layout → (ℕ → ℕ → ℕ → Option ℕ) → ℕ → Option ℕ
+first_in_table layout answer table = first_of (first_in_row answer table) 1 (rows_of layout table)
+
 unfoldable pub first_column : Layout → (ℕ → ℕ → ℕ → Option ℕ) → Option ℕ
-first_column layout answer =
-    first_of (λ table. first_of (λ row. first_of (answer table row) 0 (length (columns_of table))) 1 (rows_of layout table)) 0 64
+first_column layout answer = first_of (first_in_table layout answer) 0 64
 
 -- a column whose number names nothing
 abbrev pub kind_of : ℕ → ℕ → ColumnKind
@@ -119,7 +127,7 @@ falls bytes layout table row column = nat_lt (number_of bytes layout table row c
 
 abbrev pub fallen_column : List ℕ → Layout → ℕ → ℕ → ℕ → Option ℕ
 fallen_column bytes layout table row column =
-    holds_or (not (is_list (kind_of table column) && nat_lt 1 row && falls bytes layout table row column)) (column_at layout table row column)
+    holds_or (not ((is_list (kind_of table column) && nat_lt 1 row) && falls bytes layout table row column)) (column_at layout table row column)
 
 abbrev pub column_checks : Span → List Check
 column_checks span =

@@ -1,6 +1,6 @@
 -- The heaps of metadata (ECMA-335 II.24.2.3 and II.24.2.4), and what a column's number names.
-use Rattle.std.specs.Prelude.{ℕ, ◌+◌, ◌-◌, ◌*◌, ◌/◌, ◌%◌, ◌^◌, ◌==◌, ◌||◌, Bool, true, List, [], length, take, drop, position, find, Option, Some, None, nat_le, nat_lt, if◌then◌else◌, is_some}
-use Rattle.std.specs.Option.{option_map, option_and_then}
+use Rattle.std.specs.Prelude.{ℕ, ◌+◌, ◌-◌, ◌*◌, ◌/◌, ◌%◌, ◌^◌, ◌==◌, Bool, true, List, [], length, take, drop, position, Option, Some, None, nat_le, if◌then◌else◌, is_some}
+use Rattle.std.specs.Option.{option_and_then}
 use Rattle.std.specs.Str.{is_utf8}
 use Rattle.rtr_bytes.specs.declared.fault.Span.{Span}
 use Rattle.rtr_bytes.specs.Compressed.{compressed_in}
@@ -8,10 +8,9 @@ use Rattle.metadata.specs.declared.schema.Heap.{Heap}
 use Rattle.metadata.specs.declared.schema.Heap.TheVariants as heaps
 use Rattle.metadata.specs.declared.schema.Table.{Table}
 use Rattle.metadata.specs.declared.schema.CodedKind.{CodedKind}
-use Rattle.metadata.specs.declared.schema.CodedKind.TheVariants as kinds
 use Rattle.metadata.specs.declared.schema.ColumnKind.{ColumnKind}
 use Rattle.metadata.specs.declared.schema.ColumnKind.TheVariants as columns
-use Rattle.metadata.specs.Schema.{table_number, tag_bits, tagged_table}
+use Rattle.metadata.specs.Schema.{kind_numbered, table_number, tag_bits, tagged_table}
 use Rattle.metadata.specs.Tables.{Layout, rows_of}
 
 -- the bytes of a heap
@@ -33,9 +32,13 @@ string_of bytes layout at = if at == 0 then Some [] else text_in (drop at (heap_
 
 -- ---- blobs
 
--- the bytes after a compressed length, where they are all there
+-- so many bytes, where they are all there
+abbrev pub front_if : ℕ → List ℕ → Option (List ℕ)
+front_if len bytes = if nat_le len (length bytes) then Some (take len bytes) else None
+
+-- the bytes after a compressed length
 abbrev pub counted : List ℕ → ℕ × ℕ → Option (List ℕ)
-counted bytes (len, size) = if nat_le (size + len) (length bytes) then Some (take len (drop size bytes)) else None
+counted bytes (len, size) = front_if len (drop size bytes)
 
 unfoldable pub blob_in : List ℕ → Option (List ℕ)
 blob_in bytes = option_and_then (counted bytes) (compressed_in bytes)
@@ -63,6 +66,10 @@ row_token layout row table = if nat_le row (rows_of layout (table_number table))
 -- the token that an index of a kind names: its tag is listed, and its row is at most the last of that table
 unfoldable pub coded_token : Layout → CodedKind → ℕ → Option ℕ
 coded_token layout kind value = option_and_then (row_token layout (value / 2 ^ tag_bits kind)) (tagged_table kind (value % 2 ^ tag_bits kind))
+
+-- the same by the kind's number
+abbrev pub coded_of : Layout → ℕ → ℕ → Option ℕ
+coded_of layout kind value = option_and_then (λ k. coded_token layout k value) (kind_numbered kind)
 
 -- ---- whether a column's number names what it should
 

@@ -6,3 +6,4 @@ pub mod Checks
 pub mod Steps
 pub mod Names
 pub mod Kept
+pub mod Marks

@@ -1,5 +1,5 @@
 -- The tables of metadata (ECMA-335 II.24.2.6), each column of each row by its place.
-use Rattle.std.specs.Prelude.{ℕ, ◌+◌, ◌-◌, ◌*◌, ◌/◌, ◌%◌, ◌^◌, ◌==◌, ◌&&◌, ◌||◌, Bool, true, false, not, List, [], ◌∷◌, length, map, take, get_or, filter, count_by, sum_by, Option, Some, None, nat_lt, nat_le, if◌then◌else◌, unwrap_or, slice_index}
+use Rattle.std.specs.Prelude.{ℕ, ◌+◌, ◌-◌, ◌*◌, ◌/◌, ◌%◌, ◌^◌, ◌==◌, ◌&&◌, Bool, true, false, not, List, length, map, take, get_or, filter, count_by, sum_by, Option, Some, None, nat_lt, nat_le, if◌then◌else◌, unwrap_or, slice_index}
 use Rattle.std.specs.List.{list_all, range_with_len}
 use Rattle.rtr_bytes.specs.declared.fault.Span.{Span}
 use Rattle.rtr_bytes.specs.Field.{field_at, u32_of}
@@ -48,6 +48,10 @@ count_at bytes at table = at + 24 + 4 * tables_below (valid_of bytes at) table
 unfoldable pub row_count : List ℕ → ℕ → ℕ → ℕ
 row_count bytes at table = if has_table (valid_of bytes at) table then u32_of bytes (count_at bytes at table) else 0
 
+-- how many rows each of 64 tables has
+unfoldable pub row_counts : List ℕ → ℕ → List ℕ
+row_counts bytes at = map (row_count bytes at) (range_with_len 0 64)
+
 -- the rows begin after the last count
 abbrev pub rows_place : List ℕ → ℕ → ℕ
 rows_place bytes at = count_at bytes at 64
@@ -61,7 +65,7 @@ layout_of bytes span =
       guids = stream_of bytes span guids_name;
       blobs = stream_of bytes span blobs_name;
       heap_sizes = heap_sizes_of bytes at;
-      rows = map (row_count bytes at) (range_with_len 0 64);
+      rows = row_counts bytes at;
       rows_at = rows_place bytes at;
     }
 
@@ -136,7 +140,7 @@ table_of bytes layout table = map (row_of bytes layout table) (range_with_len 1 
 
 -- the column of a row, where there is one: rows count from 1, columns from 0
 abbrev pub has_column : Layout → ℕ → ℕ → ℕ → Bool
-has_column layout table row column = nat_le 1 row && nat_le row (rows_of layout table) && nat_lt column (length (columns_of table))
+has_column layout table row column = nat_le 1 row && (nat_le row (rows_of layout table) && nat_lt column (length (columns_of table)))
 
 unfoldable pub column_of : List ℕ → Layout → ℕ → ℕ → ℕ → Option ℕ
 column_of bytes layout table row column = if has_column layout table row column then Some (number_of bytes layout table row column) else None

@@ -1,12 +1,13 @@
 //! The header of the tables' stream (ECMA-335 II.24.2.6).
 
-ghost use Rattle.std.specs.Prelude.{◌≡◌, ◌≤◌, ◌<◌, ◌^◌, length, None, Some, All, IfErr, IfOk, OnOk};
-ghost use Rattle.std.specs.List.{list_all, list_any, range_with_len};
+ghost use Rattle.std.specs.Prelude.{◌≡◌, ◌≤◌, ◌<◌, ◌^◌, if◌then◌else◌, length, None, Some, All, IfErr, IfOk, OnOk};
+ghost use Rattle.rtr_bytes.specs.Field.{u32_of};
+ghost use Rattle.std.specs.List.{list_any};
 ghost use Rattle.rtr_bytes.specs.Checks.{fault_or, RefusedBy};
 ghost use Rattle.metadata.specs.Schema.{is_of};
 ghost use Rattle.metadata.specs.Streams.{end_of};
-ghost use Rattle.metadata.specs.Tables.{count_at, has_table, row_count, rows_place, valid_of};
-ghost use Rattle.metadata.specs.Checks.{cut_header, first_large, is_known, table_is_known, unknown_heap, unknown_table};
+ghost use Rattle.metadata.specs.Tables.{has_table, valid_of};
+ghost use Rattle.metadata.specs.Checks.{all_known, cut_header, first_large, is_known, table_is_known, unknown_heap, unknown_table};
 ghost use Rattle.metadata.specs.Steps.{AreCounts, IsHeader};
 
 use crate::check::Check;
@@ -66,7 +67,7 @@ fn table_is_known(valid: u64, table: u8) -> bool
 
 /// Whether each table with a bit in Valid is one of the standard.
 fn all_known(valid: u64) -> bool
-    ensures { result ≡ list_all (table_is_known valid) (range_with_len 0 64) }
+    ensures { result ≡ all_known valid }
 {
     for table in 0..TABLE_COUNT {
         if !table_is_known(valid, table) {
@@ -74,6 +75,21 @@ fn all_known(valid: u64) -> bool
         }
     }
     true
+}
+
+/// The row count of a table whose count, where it is there, is at a place.
+fn count_of(bytes: &[u8], place: u32, is_there: bool) -> u32
+    requires { length bytes.now ≤ 2 ^ 31 }
+    ensures { result ≡ (if is_there then u32_of bytes.now place else 0) }
+{
+    if is_there { u32_or_zero(bytes, place) } else { 0 }
+}
+
+/// How many bytes a table's count has in the header.
+fn count_size(is_there: bool) -> u32
+    ensures { result ≡ (if is_there then 4 else 0) }
+{
+    if is_there { COUNT_SIZE } else { 0 }
 }
 
 /// How many rows each of the tables 0 to 63 has, and where the rows begin, by the header at a place.
@@ -86,12 +102,9 @@ fn read_counts(alloc: Global, bytes: &[u8], at: u32, valid: u64) -> Result<Table
     let mut rows = Vec::with_capacity(alloc, TABLE_COUNT as usize)?;
     let mut place = at + FIXED_SIZE;
     for table in 0..TABLE_COUNT {
-        if has_table(valid, table) {
-            rows.push(u32_or_zero(bytes, place))?;
-            place += COUNT_SIZE;
-        } else {
-            rows.push(0)?;
-        }
+        let is_there = has_table(valid, table);
+        rows.push(count_of(bytes, place, is_there))?;
+        place += count_size(is_there);
     }
     Ok(TablesHeader {
         heap_sizes: u8_or_zero(bytes, at + 6),
@@ -113,9 +126,7 @@ fn check_counts(bytes: &[u8], at: u32, valid: u64, header: &TablesHeader) -> Res
     for table in 0..TABLE_COUNT {
         let rows = header.rows[usize::from(table)];
         ensure(rows < 1 << 24, Check::RowCount as u16, place)?;
-        if has_table(valid, table) {
-            place += COUNT_SIZE;
-        }
+        place += count_size(has_table(valid, table));
     }
     Ok(())
 }

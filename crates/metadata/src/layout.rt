@@ -1,163 +1,21 @@
 //! Where the rows and the columns of the tables are (ECMA-335 II.24.2.6).
 
-ghost use Rattle.std.specs.Prelude.{◌≡◌, ◌≤◌, ◌<◌, ◌+◌, ◌*◌, ◌^◌, ◌-◌, length, All, IfOk, IfErr, OnOk, List, Option, Some, None, sum_by, map, take, get_or, unwrap_or};
-ghost use Rattle.std.specs.List.{range_with_len};
-ghost use Rattle.rtr_bytes.specs.Checks.{RefusedBy, fault_or, holds_or};
+ghost use Rattle.std.specs.Prelude.{◌≡◌, ◌≤◌, ◌<◌, ◌+◌, ◌*◌, ◌^◌, ◌-◌, length, IfOk, IfErr, OnOk, None, option_copied, slice_get, unwrap_or};
+ghost use Rattle.rtr_bytes.specs.Checks.{RefusedBy};
 ghost use Rattle.rtr_bytes.specs.Field.{field_at};
-ghost use Rattle.metadata.specs.declared.schema.ColumnKind.TheVariants as columns;
-ghost use Rattle.metadata.specs.Kept.{AreTables, column_layouts, fit_fault, layout_by, size_of_columns};
-ghost use Rattle.metadata.specs.Schema.{columns_in, columns_of, tag_bits};
+ghost use Rattle.metadata.specs.Kept.{AreTables, column_layouts, fit_fault, size_of_columns};
+ghost use Rattle.metadata.specs.Schema.{columns_in, columns_of};
 ghost use Rattle.metadata.specs.Streams.{end_of};
-ghost use Rattle.metadata.specs.Tables.{is_short_in, is_wide, is_wide_row, row_size, rows_of, width};
+ghost use Rattle.metadata.specs.Tables.{row_size, width};
 
 use crate::check::Check;
-use crate::header::TablesHeader;
-use crate::schema::{CODED_TABLES, COLUMNS, CodedKind, CodedTable, Column, ColumnKind, Heap, Table};
-use crate::streams::Streams;
+use crate::places::Places;
+use crate::schema::{COLUMNS, Column, ColumnKind};
 use rtr_bytes::{NoMemory, ReadRefusal, Span, ensure, u16_or_zero, u32_or_zero};
 use std::alloc::Global;
-use std::marker::Model;
 
 /// How many tables a tables' stream can have: one for each bit of Valid.
 const TABLES: u8 = 64;
-/// From how many rows on an index into a table has four bytes.
-const WIDE_ROWS: u32 = 1 << 16;
-
-/// Up to how many rows of each of its tables two bytes hold each index of a kind.
-#[tactic(auto, using(std::proofs::lemmas::Nat::one_shl))]
-fn short_limit(kind: CodedKind) -> u32
-    ensures { result ≡ 2 ^ (16 - tag_bits kind) }
-{
-    1 << (16 - kind.tag_bits())
-}
-
-/// Where the heaps are, how many rows each table has, and which heap indexes have four bytes.
-#[derive(Debug, Drop)]
-pub(crate) struct Places {
-    strings: Span,
-    user_strings: Span,
-    guids: Span,
-    blobs: Span,
-    heap_sizes: u8,
-    rows: Vec<u32>,
-    rows_at: u32,
-}
-
-impl Model for Places {
-    ghost use Rattle.std.specs.Prelude.{◌<◌, ◌^◌, All};
-    ghost use Rattle.metadata.specs.Tables.{Layout};
-
-    ghost Value = { Layout };
-
-    ghost view = { λ p. record { strings = p.strings; user_strings = p.user_strings; guids = p.guids; blobs = p.blobs; heap_sizes = p.heap_sizes; rows = p.rows.items; rows_at = p.rows_at } };
-
-    ghost invariant = { λ p. All (λ n. n < 2 ^ 24) p.rows.items };
-}
-
-impl Places {
-    /// Those by the streams and the header of the tables' stream.
-    pub(crate) fn of(streams: Streams, header: TablesHeader) -> Places
-        requires few { All (λ n. n < 2 ^ 24) header.rows.items }
-        ensures { result ≡ layout_by streams header }
-    {
-        Places {
-            strings: streams.strings,
-            user_strings: streams.user_strings,
-            guids: streams.guids,
-            blobs: streams.blobs,
-            heap_sizes: header.heap_sizes,
-            rows: header.rows,
-            rows_at: header.rows_at,
-        }
-    }
-
-    /// `#Strings`.
-    pub(crate) fn strings(&self) -> Span
-        ensures { result ≡ self.now.strings }
-    {
-        self.strings
-    }
-
-    /// `#US`.
-    pub(crate) fn user_strings(&self) -> Span
-        ensures { result ≡ self.now.user_strings }
-    {
-        self.user_strings
-    }
-
-    /// `#GUID`.
-    pub(crate) fn guids(&self) -> Span
-        ensures { result ≡ self.now.guids }
-    {
-        self.guids
-    }
-
-    /// `#Blob`.
-    pub(crate) fn blobs(&self) -> Span
-        ensures { result ≡ self.now.blobs }
-    {
-        self.blobs
-    }
-
-    /// The file offset of the first row.
-    fn rows_at(&self) -> u32
-        ensures { result ≡ self.now.rows_at }
-    {
-        self.rows_at
-    }
-
-    /// How many rows a table has.
-    pub(crate) fn rows(&self, table: u8) -> u32
-        ensures rows { result ≡ rows_of self.now table }
-        ensures few { result < 2 ^ 24 }
-    {
-        self.rows.get(table as usize).copied().unwrap_or(0)
-    }
-
-    /// Whether the index of a heap has four bytes.
-    fn is_wide_heap(&self, heap: Heap) -> bool
-        ensures { result ≡ is_wide self.now (columns.Heap heap) }
-    {
-        let bit = match heap {
-            Heap::Strings => 1,
-            Heap::Guids => 2,
-            Heap::Blobs => 4,
-        };
-        self.heap_sizes / bit % 2 == 1
-    }
-
-    /// Whether the index of a row of a table has four bytes.
-    fn is_wide_row(&self, table: Table) -> bool
-        ensures { result ≡ is_wide_row self.now table }
-    {
-        self.rows(table.number()) >= WIDE_ROWS
-    }
-
-    /// Whether two bytes hold each index of a kind, by the tables of tags.
-    fn is_short_in(&self, tagged: &[CodedTable], kind: CodedKind) -> bool
-        ensures { result ≡ is_short_in tagged.now self.now kind }
-    {
-        let limit = short_limit(kind);
-        tagged
-            .iter()
-            .filter(|t| t.kind.number() == kind.number())
-            .all(|t| self.rows(t.table.number()) < limit)
-    }
-
-    /// Whether a column of a kind has four bytes, and not two.
-    #[tactic(auto, unfolding(crate::specs::Tables::is_short))]
-    pub(crate) fn is_wide(&self, kind: ColumnKind) -> bool
-        ensures { result ≡ is_wide self.now kind }
-    {
-        match kind {
-            ColumnKind::UInt16 => false,
-            ColumnKind::UInt32 => true,
-            ColumnKind::Heap(heap) => self.is_wide_heap(heap),
-            ColumnKind::Row(table) | ColumnKind::List(table) => self.is_wide_row(table),
-            ColumnKind::Coded(kind) => !self.is_short_in(&CODED_TABLES, kind),
-        }
-    }
-}
 
 /// Where a column is in each row of its table.
 #[derive(Clone, Copy, Debug)]
@@ -235,7 +93,7 @@ impl RowLayout {
     }
 
     /// The row of a table.
-    #[tactic(auto, unfolding(crate::specs::Schema::columns_of, crate::specs::Tables::row_size))]
+    #[tactic(auto, unfolding(crate::specs::Schema::columns_of, crate::specs::Tables::row_size, crate::specs::Tables::widths_of))]
     fn of(alloc: Global, places: &Places, table: u8) -> Result<RowLayout, NoMemory>
         ensures columns { IfOk result (λ row. row.columns.items ≡ column_layouts places.now 0 (columns_of table)) }
         ensures size { IfOk result (λ row. row.size ≡ row_size places.now table) }
@@ -248,6 +106,8 @@ impl RowLayout {
 /// Where the rows of a table are, and the columns in each.
 #[derive(Debug, Drop)]
 pub(crate) struct TableLayout {
+    /// Its number.
+    pub number: u8,
     /// The file offset of its first row.
     pub at: u32,
     /// How many rows it has.
@@ -288,8 +148,27 @@ pub(crate) fn read_tables(
         let rows = places.rows(number);
         let next = u64::from(at) + u64::from(rows) * u64::from(row.size);
         ensure(next <= u64::from(end), Check::Rows as u16, stream.start)?;
-        tables.push(TableLayout { at, rows, row })?;
+        tables.push(TableLayout {
+            number,
+            at,
+            rows,
+            row,
+        })?;
         at = next as u32;
     }
     Ok(tables)
+}
+
+/// The table of a number.
+pub(crate) fn nth_table(tables: &[TableLayout], number: u8) -> Option<&TableLayout>
+    ensures { option_copied result ≡ slice_get tables.now number }
+{
+    tables.get(number as usize)
+}
+
+/// The column of a number, from 0.
+pub(crate) fn nth_column(columns: &[ColumnLayout], index: u8) -> Option<&ColumnLayout>
+    ensures { option_copied result ≡ slice_get columns.now index }
+{
+    columns.get(index as usize)
 }

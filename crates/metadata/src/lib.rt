@@ -3,11 +3,20 @@
 
 mod check;
 mod header;
+mod heaps;
+mod judge;
+mod laws;
 mod names;
 mod root;
 mod layout;
+mod metadata;
+mod places;
 mod schema;
 mod streams;
 mod texts;
 
-pub use schema::{CODED_KINDS, CODED_TABLES, COLUMNS, CodedKind, CodedTable, Column, ColumnKind, Heap, Table};
+pub use laws::tables_are_lists_of_rows;
+pub use metadata::Metadata;
+pub use schema::{
+    CODED_KINDS, CODED_TABLES, COLUMNS, CodedKind, CodedTable, Column, ColumnKind, Heap, Table,
+};

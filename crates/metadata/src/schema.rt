@@ -2,7 +2,8 @@
 //!
 //! [`COLUMNS`] and [`CODED_TABLES`] are the one place where they stand: the definitions and the code read these.
 
-ghost use Rattle.std.specs.Prelude.{◌≡◌, ◌≤◌};
+ghost use Rattle.std.specs.Prelude.{◌≡◌, ◌≤◌, ◌<◌};
+ghost use Rattle.metadata.specs.Checks.{is_list};
 ghost use Rattle.metadata.specs.Schema.{kind_number, tag_bits, table_number};
 
 /// A table of metadata, by its number.
@@ -89,7 +90,8 @@ pub enum Table {
 impl Table {
     /// Its number.
     pub fn number(self) -> u8
-        ensures { result ≡ table_number self }
+        ensures number { result ≡ table_number self }
+        ensures few { result < 64 }
     {
         self as u8
     }
@@ -182,6 +184,15 @@ pub enum ColumnKind {
     Coded(CodedKind),
     /// The first of the rows of a table that belong to this row.
     List(Table),
+}
+
+impl ColumnKind {
+    /// Whether it is the start of a list.
+    pub(crate) fn is_list(self) -> bool
+        ensures { result ≡ is_list self }
+    {
+        matches!(self, ColumnKind::List(_))
+    }
 }
 
 /// A column of a table.

@@ -1,8 +1,8 @@
 //! The places of `#Strings` at which a text begins (ECMA-335 II.24.2.3).
 
-ghost use Rattle.std.specs.Prelude.{◌≡◌, ◌<◌, ◌≤◌, length, drop, is_some, IfOk};
+ghost use Rattle.std.specs.Prelude.{◌≡◌, ◌<◌, ◌≤◌, false, length, drop, get_or, is_some, IfOk};
 ghost use Rattle.metadata.specs.Heaps.{text_in};
-ghost use Rattle.metadata.specs.Kept.{AreTextsAfter, goes_on, is_text};
+ghost use Rattle.metadata.specs.Marks.{AreTextsAfter, begins_by_lead, goes_on, is_text};
 
 use rtr_bytes::NoMemory;
 use std::alloc::Global;
@@ -20,7 +20,7 @@ pub(crate) struct Texts<'a> {
 
 impl<'a> Model for Texts<'a> {
     ghost use Rattle.std.specs.Prelude.{ℕ, List};
-    ghost use Rattle.metadata.specs.Kept.{AreTexts};
+    ghost use Rattle.metadata.specs.Marks.{AreTexts};
 
     ghost Value = { List ℕ };
 
@@ -63,6 +63,13 @@ fn is_text(bytes: &[u8]) -> bool
     }
 }
 
+/// The mark of a place.
+fn mark(marks: &[bool], at: usize) -> bool
+    ensures { result ≡ get_or marks.now at false }
+{
+    marks.get(at).copied().unwrap_or(false)
+}
+
 /// Whether a part of a text of some bytes is at a place, and a text begins after it.
 fn goes_on(heap: &[u8], marks: &[bool], at: usize, size: usize) -> bool
     requires same { length marks.now ≡ length heap.now }
@@ -73,7 +80,21 @@ fn goes_on(heap: &[u8], marks: &[bool], at: usize, size: usize) -> bool
     ensures { result ≡ goes_on size (drop at heap.now) }
 {
     let next = at + size;
-    marks.get(next).copied().unwrap_or(false) && is_text(&heap[at..next])
+    if mark(marks, next) {
+        is_text(&heap[at..next])
+    } else {
+        false
+    }
+}
+
+/// Whether a character of two to four bytes is at a place, and a text begins after it.
+fn begins_by_lead(heap: &[u8], marks: &[bool], at: usize) -> bool
+    requires same { length marks.now ≡ length heap.now }
+    requires place { at < length heap.now }
+    requires later { AreTextsAfter at marks.now heap.now }
+    ensures { result ≡ begins_by_lead (drop at heap.now) }
+{
+    goes_on(heap, marks, at, 2) || goes_on(heap, marks, at, 3) || goes_on(heap, marks, at, 4)
 }
 
 /// Whether a text begins at a place, where that is known of each later one.
@@ -87,10 +108,8 @@ fn begins_text(heap: &[u8], marks: &[bool], at: usize) -> bool
     if first == 0 {
         true
     } else if first <= LAST_ASCII {
-        marks.get(at + 1).copied().unwrap_or(false)
+        mark(marks, at + 1)
     } else {
-        goes_on(heap, marks, at, 2)
-            || goes_on(heap, marks, at, 3)
-            || goes_on(heap, marks, at, 4)
+        begins_by_lead(heap, marks, at)
     }
 }
