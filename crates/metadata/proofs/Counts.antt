@@ -4,6 +4,7 @@ use Rattle.std.specs.Prelude.{find, sum_by, count_by, ◌&&◌, not, nat_lt}
 use Rattle.std.specs.Option.{option_map}
 use Rattle.std.specs.List.{list_all, range_with_len}
 use Rattle.std.proofs.lemmas.Bool.{cases_lt, le-ltb, lt-ltb}
+use Rattle.std.proofs.lemmas.List.Sums.{sum_by-cons}
 use Rattle.std.proofs.lemmas.List.FromFn.{get_or-map-range_with_len, length-map-range_with_len, map-range_with_len_more}
 use Rattle.rtr_bytes.specs.Field.{u32_of}
 use Rattle.metadata.specs.Tables.{count_at, has_table, row_count, row_counts, tables_below, valid_of}
@@ -51,11 +52,14 @@ found_none f test t n h = ap (λ (is : List ℕ). option_map f (find test is)) (
 -- ---- the tables below one
 
 sum_range_more : (g : ℕ → ℕ) (a n j : ℕ) → a + n ≡ j → sum_by g (range_with_len a (suc n)) ≡ sum_by g (range_with_len a n) + g j
-sum_range_more g a zero j e = let same : g a ≡ g j = ap g (omega (arith, e)) in omega (arith, same)
+sum_range_more g a zero j e =
+    let same : g a ≡ g j = ap g (omega (arith, e)) in
+    let here = sum_by-cons g a [] in
+    omega (arith, same, here)
 sum_range_more g a (suc n) j e =
     let later = sum_range_more g (a + 1) n j (omega (arith, e)) in
-    let here : sum_by g (range_with_len a (suc (suc n))) ≡ g a + sum_by g (range_with_len (a + 1) (suc n)) = refl in
-    let there : sum_by g (range_with_len a (suc n)) ≡ g a + sum_by g (range_with_len (a + 1) n) = refl in
+    let here = sum_by-cons g a (range_with_len (a + 1) (suc n)) in
+    let there = sum_by-cons g a (range_with_len (a + 1) n) in
     omega (arith, later, here, there)
 
 abbrev one : Bool → ℕ
@@ -73,6 +77,10 @@ size b = cond b 4 0
 four : (b : Bool) → 4 * one b ≡ size b
 four true = refl
 four false = refl
+
+pub step_small : (b : Bool) (n : ℕ) → n ≡ cond b 4 0 → n ≤ 4
+step_small true n e = omega (arith, e)
+step_small false n e = omega (arith, e)
 
 -- a table's count moves the place of the next
 pub place_more : (bytes : List ℕ) (at t valid place step : ℕ) → valid ≡ valid_of bytes at → place ≡ count_at bytes at t → step ≡ size (has_table valid t)

@@ -1,6 +1,6 @@
 //! The header of the tables' stream (ECMA-335 II.24.2.6).
 
-ghost use Rattle.std.specs.Prelude.{◌≡◌, ◌≤◌, ◌<◌, ◌^◌, if◌then◌else◌, length, None, Some, All, IfErr, IfOk, OnOk};
+ghost use Rattle.std.specs.Prelude.{◌≡◌, ◌≤◌, ◌<◌, ◌^◌, if◌then◌else◌, length, slice_index, None, Some, All, IfErr, IfOk, OnOk};
 ghost use Rattle.rtr_bytes.specs.Field.{u32_of};
 ghost use Rattle.std.specs.List.{list_any};
 ghost use Rattle.rtr_bytes.specs.Checks.{fault_or, RefusedBy};
@@ -113,6 +113,15 @@ fn read_counts(alloc: Global, bytes: &[u8], at: u32, valid: u64) -> Result<Table
     })
 }
 
+/// The row count of a table.
+fn nth_count(header: &TablesHeader, table: u8) -> u32
+    requires { table < length header.now.rows.items }
+    ensures { result ≡ slice_index header.now.rows.items table }
+{
+    let counts = header.rows.as_slice();
+    counts[usize::from(table)]
+}
+
 /// No count of the header at a place has more than 24 bits.
 fn check_counts(bytes: &[u8], at: u32, valid: u64, header: &TablesHeader) -> Result<(), Fault>
     requires within { at ≤ 2 ^ 31 }
@@ -124,8 +133,7 @@ fn check_counts(bytes: &[u8], at: u32, valid: u64, header: &TablesHeader) -> Res
 {
     let mut place = at + FIXED_SIZE;
     for table in 0..TABLE_COUNT {
-        let rows = header.rows[usize::from(table)];
-        ensure(rows < 1 << 24, Check::RowCount as u16, place)?;
+        ensure(nth_count(header, table) < 1 << 24, Check::RowCount as u16, place)?;
         place += count_size(has_table(valid, table));
     }
     Ok(())
