@@ -1,6 +1,7 @@
 mod Taken
 mod Headers
 mod Counts
+mod AllChecks
 pub mod Text
 pub mod FirstOf
 pub mod Layouts

@@ -2,11 +2,11 @@
 
 ghost use Rattle.std.specs.Prelude.{◌≡◌, ◌≤◌, ◌^◌, None, Some, length, option_copied, IfOk, IfErr, OnOk};
 ghost use Rattle.rtr_bytes.specs.Checks.{RefusedBy, first_fault};
-ghost use Rattle.metadata.specs.Checks.{layout_checks};
+ghost use Rattle.metadata.specs.Checks.{layout_checks, metadata_checks};
 ghost use Rattle.metadata.specs.Heaps.{blob_of, coded_of, string_of, user_string_of};
 ghost use Rattle.metadata.specs.Kept.{layout_fault, one_fault};
 ghost use Rattle.metadata.specs.Schema.{kind_in, kind_numbered};
-ghost use Rattle.metadata.specs.Steps.{AreStreams, IsHeader};
+ghost use Rattle.metadata.specs.Steps.{AreStreams, IsHeader, IsInside};
 ghost use Rattle.metadata.specs.Streams.{end_of};
 ghost use Rattle.metadata.specs.Tables.{column_of, layout_of, rows_of};
 
@@ -16,6 +16,7 @@ use crate::heaps::heap_of;
 use crate::judge::Judge;
 use crate::layout::{TableLayout, nth_column, nth_table, read_tables};
 use crate::places::Places;
+use crate::root::Root;
 use crate::schema::{CODED_KINDS, CodedKind, Table};
 use crate::streams::Streams;
 use crate::texts::Texts;
@@ -68,6 +69,22 @@ fn kind_numbered(number: u8) -> Option<CodedKind>
 }
 
 impl Metadata {
+    /// The metadata at a range of a file's bytes, of which there are at most 2^31; the range is empty or in the bytes.
+    /// `Malformed` names the first of the checks 30 to 43 that fails, with its place. Its time is linear in the bytes and
+    /// the rows.
+    pub fn read(alloc: Global, bytes: &[u8], span: Span) -> Result<Metadata, ReadRefusal>
+        requires small { length bytes.now ≤ 2 ^ 31 }
+        requires inside { IsInside span (length bytes.now) }
+        ensures malformed { IfErr result (λ e. RefusedBy (first_fault (metadata_checks span) bytes.now) e) }
+        ensures well_formed { OnOk result (first_fault (metadata_checks span) bytes.now ≡ None) }
+        ensures layout { IfOk result (λ m. m ≡ layout_of bytes.now span) }
+    {
+        let root = Root::read(bytes, span)?;
+        let streams = Streams::read(alloc, bytes, span, root)?;
+        let header = TablesHeader::read(alloc, bytes, streams.tables)?;
+        Metadata::of_streams(alloc, bytes, span, streams, header)
+    }
+
     /// The metadata by what its header says, with the checks of the rows and columns.
     fn of_places(
         alloc: Global,
@@ -95,7 +112,7 @@ impl Metadata {
 
     /// The metadata by its streams and the header of the tables' stream: `Malformed` names the first of the checks 40 to
     /// 43 that fails, with its place.
-    pub(crate) fn of_streams(
+    fn of_streams(
         alloc: Global,
         bytes: &[u8],
         span: Span,
