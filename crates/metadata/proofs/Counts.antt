@@ -157,6 +157,6 @@ large_not bytes at t n e h = let here : row_count bytes at t < 2 ^ 24 = omega (a
 
 pub few_more : (bytes : List ℕ) (at t n : ℕ) → row_count bytes at t ≡ n → n < 2 ^ 24 → ((k : ℕ) → k < t → row_count bytes at k < 2 ^ 24) → (k : ℕ) → k < t + 1 → row_count bytes at k < 2 ^ 24
 few_more bytes at t n e h few k k_in = elim (cases_lt k t) [
-    inl below ↦ few k below
+  | inl below ↦ few k below
   | inr not_below ↦ let same : row_count bytes at k ≡ row_count bytes at t = ap (row_count bytes at) (omega arith) in omega (arith, same, e, h)
-  ]
+]

@@ -33,9 +33,9 @@ none_left bytes end at = refl
 
 eq_sym : (x y : ℕ) → (x == y) ≡ (y == x)
 eq_sym x y = elim (cases_eq x y) [
-    inl e ↦ eq-eqb x y e ∙ sym (eq-eqb y x (sym e))
+  | inl e ↦ eq-eqb x y e ∙ sym (eq-eqb y x (sym e))
   | inr ne ↦ ne_eqb x y ne ∙ sym (ne_eqb y x (λ e. ne (sym e)))
-  ]
+]
 
 bytes_sym : (xs ys : List ℕ) → bytes_eq xs ys ≡ bytes_eq ys xs
 bytes_sym [] [] = refl
@@ -94,7 +94,7 @@ pub repeated_more : (names after : List (List ℕ)) (hs : List StreamHeader) (i 
     → first_repeated after (drop (i + 1) hs) ≡ first_repeated names (drop i hs)
 repeated_more names after hs i h i_in is_h free more =
     let same : Alike after (h.name ∷ names) = λ name.
-        more name ∙ ap (λ b. b || is_taken names name) (bytes_sym h.name name) ∙ sym (taken_cons names h.name name) in
+    more name ∙ ap (λ b. b || is_taken names name) (bytes_sym h.name name) ∙ sym (taken_cons names h.name name) in
     repeated_alike after (h.name ∷ names) (drop (i + 1) hs) same
     ∙ sym (repeated_drop names hs i h i_in is_h ∙ ap (λ t. cond t (Some h.at) (first_repeated (h.name ∷ names) (drop (i + 1) hs))) free)
 
@@ -113,9 +113,9 @@ found_inside span name (k ∷ hs) h none e =
     let parts = inside_cons span k hs none in
     let P : Bool → Type 0 = λ b. cond b (Some k) (header_named name hs) ≡ Some h → is_inside span h ≡ true in
     let both : (b : Bool) → P b = λ b. elim b as P [
-        true ↦ (λ f. let same : k ≡ h = cc in subst (λ j. is_inside span j ≡ true) same parts.0)
+      | true ↦ (λ f. let same : k ≡ h = cc in subst (λ j. is_inside span j ≡ true) same parts.0)
       | false ↦ (λ f. found_inside span name hs h parts.1 f)
-      ] in
+    ] in
     both (bytes_eq k.name name) e
 
 pub not_false : (b : Bool) → not b ≡ false → b ≡ true

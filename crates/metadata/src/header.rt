@@ -82,7 +82,11 @@ fn count_of(bytes: &[u8], place: u32, is_there: bool) -> u32
     requires { length bytes.now ≤ 2 ^ 31 }
     ensures { result ≡ (if is_there then u32_of bytes.now place else 0) }
 {
-    if is_there { u32_or_zero(bytes, place) } else { 0 }
+    if is_there {
+        u32_or_zero(bytes, place)
+    } else {
+        0
+    }
 }
 
 /// How many bytes a table's count has in the header.
@@ -133,7 +137,11 @@ fn check_counts(bytes: &[u8], at: u32, valid: u64, header: &TablesHeader) -> Res
 {
     let mut place = at + FIXED_SIZE;
     for table in 0..TABLE_COUNT {
-        ensure(nth_count(header, table) < 1 << 24, Check::RowCount as u16, place)?;
+        ensure(
+            nth_count(header, table) < 1 << 24,
+            Check::RowCount as u16,
+            place,
+        )?;
         place += count_size(has_table(valid, table));
     }
     Ok(())

@@ -176,7 +176,10 @@ fn check_names(alloc: Global, headers: &[StreamHeader<'_>]) -> Result<(), ReadRe
 }
 
 /// The header of a name.
-fn header_named<'h, 'a>(headers: &'h [StreamHeader<'a>], name: &[u8]) -> Option<&'h StreamHeader<'a>>
+fn header_named<'h, 'a>(
+    headers: &'h [StreamHeader<'a>],
+    name: &[u8],
+) -> Option<&'h StreamHeader<'a>>
     ensures { option_copied result ≡ header_named name.now headers.now }
 {
     headers.iter().find(|header| header.name == name)
@@ -239,7 +242,11 @@ impl Streams {
         let headers = read_headers(alloc, bytes, span.start + span.len, root)?;
         check_ranges(&headers, span)?;
         check_names(alloc, &headers)?;
-        ensure(header_named(&headers, TABLES).is_some(), Check::TablesStream as u16, span.start)?;
+        ensure(
+            header_named(&headers, TABLES).is_some(),
+            Check::TablesStream as u16,
+            span.start,
+        )?;
         Ok(Streams {
             tables: span_named(&headers, TABLES, span),
             strings: span_named(&headers, STRINGS, span),

@@ -1,7 +1,7 @@
 use super::*;
 use rtr_bytes::Span;
 use std::alloc::Global;
-use std::test::{Abort, Fail};
+use std::test::Fail;
 
 /// Where the metadata is in the file.
 const SPAN: Span = Span { start: 4, len: 244 };
@@ -12,7 +12,8 @@ const ROOT: &str = "@4 42534a42 01000100 00000000 04000000 76310000 00000500
 @60 d8000000 08000000 23555300 e0000000 10000000 23475549 44000000 f0000000 04000000 23426c6f 62000000";
 
 /// The tables: one row of Module, two of TypeDef, one of Field and one of Assembly; then the heaps.
-const TABLES: &str = "@104 00000000 02000001 15000000 01000000 @128 01000000 02000000 01000000 01000000
+const TABLES: &str =
+    "@104 00000000 02000001 15000000 01000000 @128 01000000 02000000 01000000 01000000
 @144 0000 0100 0100 0000 0000 @154 00000000 0300 0000 0000 0100 0100 @168 00000000 0300 0000 0400 0200 0100
 @182 0600 0300 0100 @188 00000000 0000 0000 0000 0000 00000000 0000 0100 0000
 @212 004d0054 00000000 @220 00036100 00 @228 01020304 @244 00020608";
@@ -22,8 +23,8 @@ const CHECKS: &str = " = ok
 @4 43 = check 30 fails at 4
 @16 05 = check 31 fails at 16
 @16 fc = check 31 fails at 16
-@88 23555323 23555323 23555323 23555323 23555323 23555323 = check 32 fails at 80
-@84 f5 = check 33 fails at 80
+@96 23232323 23232323 23232323 23232323 23232323 23232323 23232323 23232323 = check 32 fails at 88
+@88 f1 = check 33 fails at 88
 @68 237e0000 = check 34 fails at 60
 @36 2378 = check 35 fails at 4
 @32 17 = check 36 fails at 104
@@ -79,11 +80,11 @@ fn checks(rt: HostRuntime) -> Result<(), Fail> {
         let (changes, expected) = row.split_once(" = ").ok_or("a row has two parts")?;
         let bytes = file_with(alloc, changes)?;
         assert!(rt; bytes.len() == 248);
-        let told = match Metadata::read(alloc, &bytes, SPAN) {
+        let answer = match Metadata::read(alloc, &bytes, SPAN) {
             Ok(_) => format!(in alloc; "ok")?,
             Err(refusal) => format!(in alloc; "{refusal}")?,
         };
-        assert_eq!(rt; told.as_str(), expected, "{changes}");
+        assert_eq!(rt; answer.as_str(), expected, "{changes}");
     }
     Ok(())
 }
@@ -111,5 +112,51 @@ fn reads(rt: HostRuntime) -> Result<(), Fail> {
     assert!(rt; metadata.blob(&bytes, 2).is_none());
     assert!(rt; metadata.user_string(&bytes, 1) == Some(&[0x61, 0]));
     assert!(rt; metadata.user_string(&bytes, 0).is_none());
+    Ok(())
+}
+
+/// The root and two streams, the header of the tables with one row of Module, 50,000 of TypeRef and one of Assembly, and
+/// the row of Module.
+const MANY_ROWS: &str = "42534a420100010000000000040000007631000000000200\
+380000000a280900237e0000422809000109 3d0023537472696e677300000000\
+0000000002000100030000000100000000000000000000000100000050c3000001000000\
+000000000000000000000000";
+
+/// Metadata at 0 whose 100,000 names are the ends of one text of 4 MB, which a byte ends.
+fn suffixes(alloc: Global, last: u8) -> Result<Vec<u8>, Fail> {
+    let mut head = String::new(alloc);
+    for word in MANY_ROWS.split_whitespace() {
+        head.push_str(word)?;
+    }
+    let mut bytes = hex::decode(alloc, head.as_str())?;
+    for row in 0u32..50_000 {
+        let name = 80 * row + 1;
+        bytes.extend_from_slice(&[0, 0, 0, 0])?;
+        bytes.extend_from_slice(&name.to_le_bytes())?;
+        bytes.extend_from_slice(&(name + 40).to_le_bytes())?;
+    }
+    bytes.extend_from_slice(&[0; 27])?;
+    let heap = vec![in alloc; b'a'; 3_999_999]?;
+    bytes.extend_from_slice(&heap)?;
+    bytes.push(last)?;
+    Ok(bytes)
+}
+
+#[test]
+fn one_long_text(rt: HostRuntime) -> Result<(), Fail> {
+    let alloc = rt.alloc();
+    for (last, expected) in [(0, "ok"), (0xFF, "check 42 fails at 108")] {
+        let bytes = suffixes(alloc, last)?;
+        assert_eq!(rt; bytes.len(), 4_600_131);
+        let span = Span {
+            start: 0,
+            len: 4_600_131,
+        };
+        let answer = match Metadata::read(alloc, &bytes, span) {
+            Ok(_) => format!(in alloc; "ok"),
+            Err(refusal) => format!(in alloc; "{refusal}"),
+        };
+        assert_eq!(rt; answer?.as_str(), expected);
+    }
     Ok(())
 }

@@ -24,11 +24,11 @@ returns-in_err-ensure-clause-fault c =
     let table = c.loop-table.table in
     let f = count_at bytes at in
     let count : row_count bytes at table ≡ c.nth_count.result =
-        sym (c.nth_count.ensures ∙ count_by_table bytes at table c.args.header.now.rows.items c.requires.header.rows (omega arith) 0) in
+    sym (c.nth_count.ensures ∙ count_by_table bytes at table c.args.header.now.rows.items c.requires.header.rows (omega arith) 0) in
     let large : 2 ^ 24 ≤ c.nth_count.result = let test = c.in_err-ensure.ensures.fault.0 in grind (arith, nat_tests, test) in
     let first : first_large bytes at ≡ Some c.loop-table.place =
-        sym c.loop-table.invariant.first ∙ found_here f (is_large bytes at) table 64 (omega arith) (large_here bytes at table c.nth_count.result count large)
-        ∙ ap (λ (n : ℕ). Some n) (sym c.loop-table.invariant.place_is) in
+    sym c.loop-table.invariant.first ∙ found_here f (is_large bytes at) table 64 (omega arith) (large_here bytes at table c.nth_count.result count large)
+    ∙ ap (λ (n : ℕ). Some n) (sym c.loop-table.invariant.place_is) in
     let fault = c.in_err-ensure.ensures.fault.1 in
     search (rules, first, fault)
 
@@ -45,15 +45,15 @@ loop-table-preserved c =
     let at = c.args.at in
     let table = c.loop-table.table in
     let count : row_count bytes at table ≡ c.nth_count.result =
-        sym (c.nth_count.ensures ∙ count_by_table bytes at table c.args.header.now.rows.items c.requires.header.rows (omega arith) 0) in
+    sym (c.nth_count.ensures ∙ count_by_table bytes at table c.args.header.now.rows.items c.requires.header.rows (omega arith) 0) in
     let few : c.nth_count.result < 2 ^ 24 = let test = c.in_ok-ensure.ensures.holds in grind (arith, nat_tests, test) in
     record {
       place_is =
-        place_more bytes at table c.args.valid c.loop-table.place c.count_size-place.result c.requires.valid c.loop-table.invariant.place_is
-        (c.count_size-place.ensures ∙ ap (λ (b : Bool). cond b 4 0) c.has_table.ensures);
+          place_more bytes at table c.args.valid c.loop-table.place c.count_size-place.result c.requires.valid c.loop-table.invariant.place_is
+          (c.count_size-place.ensures ∙ ap (λ (b : Bool). cond b 4 0) c.has_table.ensures);
       first =
-        sym (found_later (count_at bytes at) (is_large bytes at) table 64 (omega arith) (large_not bytes at table c.nth_count.result count few))
-        ∙ c.loop-table.invariant.first;
+          sym (found_later (count_at bytes at) (is_large bytes at) table 64 (omega arith) (large_not bytes at table c.nth_count.result count few))
+          ∙ c.loop-table.invariant.first;
       few = few_more bytes at table c.nth_count.result count few c.loop-table.invariant.few;
     }
 

@@ -12,7 +12,7 @@ returns-in-None-clause-fault c =
     let left : c.args.root.stream_count - c.headers._i ≡ suc more = omega arith in
     let none : header_at bytes end at ≡ None = sym c.read.ensures.header ∙ c.in-None.is in
     let cut : first_cut bytes end c.args.root.headers_at c.args.root.stream_count ≡ Some at =
-        sym c.headers.invariant.cut ∙ ap (first_cut bytes end at) left ∙ cut_here bytes end at more none in
+    sym c.headers.invariant.cut ∙ ap (first_cut bytes end at) left ∙ cut_here bytes end at more none in
     let fault = c.into.ensures in
     search (rules, cut, fault)
 
@@ -32,15 +32,15 @@ headers-preserved c =
     record {
       within = omega (arith, next, inside);
       cut =
-        ap (λ (n : ℕ). first_cut bytes end n more) next
-        ∙ sym (ap (first_cut bytes end at) left ∙ cut_more bytes end at more h read)
-        ∙ c.headers.invariant.cut;
+          ap (λ (n : ℕ). first_cut bytes end n more) next
+          ∙ sym (ap (first_cut bytes end at) left ∙ cut_more bytes end at more h read)
+          ∙ c.headers.invariant.cut;
       whole =
-        ap (λ (is : List StreamHeader). is ++ headers_from bytes end c.next-at.result more) c.in_ok-push-in-Some.ensures.items
-        ∙ ap (λ (n : ℕ). (before ++ h ∷ []) ++ headers_from bytes end n more) next
-        ∙ append_assoc before (h ∷ []) rest
-        ∙ ap (λ (t : List StreamHeader). before ++ t) (sym (ap (headers_from bytes end at) left ∙ headers_more bytes end at more h read))
-        ∙ c.headers.invariant.whole;
+          ap (λ (is : List StreamHeader). is ++ headers_from bytes end c.next-at.result more) c.in_ok-push-in-Some.ensures.items
+          ∙ ap (λ (n : ℕ). (before ++ h ∷ []) ++ headers_from bytes end n more) next
+          ∙ append_assoc before (h ∷ []) rest
+          ∙ ap (λ (t : List StreamHeader). before ++ t) (sym (ap (headers_from bytes end at) left ∙ headers_more bytes end at more h read))
+          ∙ c.headers.invariant.whole;
     }
 
 pub returns-clause-ok : goal.returns-clause-ok

@@ -32,9 +32,9 @@ returns-clause-malformed c =
     let tables = c.in_ok-streams.streams.tables in
     let h = c.in_ok-header.ensures in
     let header : first_fault (header_checks span) bytes ≡ None =
-        sym (header_fault_is bytes span tables c.in_ok-streams.ensures.streams.tables) ∙ no_header_fault bytes tables h.whole h.heaps h.known h.counts in
+    sym (header_fault_is bytes span tables c.in_ok-streams.ensures.streams.tables) ∙ no_header_fault bytes tables h.whole h.heaps h.known h.counts in
     let all : first_fault (layout_checks span) bytes ≡ first_fault (metadata_checks span) bytes =
-        sym (first_of_rows bytes span c.in_ok-root.ensures.ok c.in_ok-streams.ensures.ok header) in
+    sym (first_of_rows bytes span c.in_ok-root.ensures.ok c.in_ok-streams.ensures.ok header) in
     let P : Option Fault → Type 0 = λ o. IfErr c.of_streams.result (λ e. RefusedBy o e) in
     subst P all c.of_streams.ensures.malformed
 
@@ -45,8 +45,8 @@ returns-clause-well_formed c =
     let tables = c.in_ok-streams.streams.tables in
     let h = c.in_ok-header.ensures in
     let header : first_fault (header_checks span) bytes ≡ None =
-        sym (header_fault_is bytes span tables c.in_ok-streams.ensures.streams.tables) ∙ no_header_fault bytes tables h.whole h.heaps h.known h.counts in
+    sym (header_fault_is bytes span tables c.in_ok-streams.ensures.streams.tables) ∙ no_header_fault bytes tables h.whole h.heaps h.known h.counts in
     let all : first_fault (layout_checks span) bytes ≡ first_fault (metadata_checks span) bytes =
-        sym (first_of_rows bytes span c.in_ok-root.ensures.ok c.in_ok-streams.ensures.ok header) in
+    sym (first_of_rows bytes span c.in_ok-root.ensures.ok c.in_ok-streams.ensures.ok header) in
     let P : Option Fault → Type 0 = λ o. OnOk c.of_streams.result (o ≡ None) in
     subst P all c.of_streams.ensures.well_formed
