@@ -12,8 +12,6 @@ use Rattle.metadata.specs.Kept.{layout_fault}
 use Rattle.metadata.specs.Steps.{AreStreams, IsHeader, layout_by}
 use Rattle.metadata.specs.Streams.{blobs_name, guids_name, stream_of, strings_name, tables_name, user_strings_name}
 use Rattle.metadata.specs.Tables.{Layout, layout_of, heap_sizes_of, row_counts, rows_place}
-use Rattle.std.specs.Prelude.{map}
-use Rattle.std.specs.List.{range_with_len}
 
 -- ---- the layout
 

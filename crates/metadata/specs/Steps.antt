@@ -1,6 +1,5 @@
 -- What the parts of the reader of metadata give one another.
-use Rattle.std.specs.Prelude.{◌≡◌, ◌≤◌, ◌<◌, ◌^◌, ℕ, List, All, map}
-use Rattle.std.specs.List.{range_with_len}
+use Rattle.std.specs.Prelude.{◌≡◌, ◌≤◌, ◌<◌, ◌^◌, ℕ, List, All}
 use Rattle.rtr_bytes.specs.declared.fault.Span.{Span}
 use Rattle.metadata.specs.declared.streams.Streams.{Streams}
 use Rattle.metadata.specs.declared.header.TablesHeader.{TablesHeader}

@@ -1,8 +1,7 @@
-use Rattle.std.proofs.Common.{◌≡◌, ◌+◌, ◌-◌, Bool, true, false, sym, ◌∙◌, arith}
+use Rattle.std.proofs.Common.{◌≡◌, ◌+◌, ◌-◌, true, false, sym, ◌∙◌, arith}
 use Rattle.std.specs.List.{list_all, range_with_len}
 use Rattle.metadata.specs.Checks.{table_is_known}
 use Rattle.metadata.proofs.Counts.{all_end, all_left, and_false, and_true, known_first}
-use Rattle.metadata.proofs.Headers.{not_false, not_true}
 use Rattle.metadata.proofs.header.all_known.Goals as goal
 
 pub loop-table-init : goal.loop-table-init

@@ -1,8 +1,8 @@
-use Rattle.std.proofs.Common.{rules, ◌≡◌, ◌+◌, ◌≤◌, ◌<◌, ◌*◌, ◌^◌, ℕ, Bool, cond, List, Some, None, get_or, refl, sym, ap, ◌∙◌, arith}
+use Rattle.std.proofs.Common.{rules, ◌≡◌, ◌≤◌, ◌<◌, ◌^◌, ℕ, Bool, cond, Some, get_or, sym, ap, ◌∙◌, arith}
 use Rattle.std.proofs.lemmas.Bool.Decides.{nat_tests}
-use Rattle.metadata.specs.Tables.{count_at, has_table, row_count}
+use Rattle.metadata.specs.Tables.{count_at, row_count}
 use Rattle.metadata.specs.Checks.{first_large, is_large}
-use Rattle.metadata.proofs.Counts.{count_by_table, counts_length, few_more, found_here, found_later, found_none, found_of, large_first, large_here, large_not, place_first, place_more, place_small, step_small}
+use Rattle.metadata.proofs.Counts.{count_by_table, counts_length, few_more, found_here, found_later, found_none, large_first, large_here, large_not, place_first, place_more, place_small, step_small}
 use Rattle.metadata.proofs.header.check_counts.Goals as goal
 
 pub loop-table-init : goal.loop-table-init

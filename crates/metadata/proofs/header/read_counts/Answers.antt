@@ -1,5 +1,4 @@
-use Rattle.std.proofs.Common.{◌≡◌, ◌+◌, ◌≤◌, ◌*◌, ℕ, Bool, cond, List, [], ◌∷◌, ◌++◌, map, refl, sym, ap, ◌∙◌, arith}
-use Rattle.std.specs.List.{range_with_len}
+use Rattle.std.proofs.Common.{◌≡◌, Bool, cond, sym, ap, ◌∙◌, arith}
 use Rattle.rtr_bytes.specs.Field.{u32_of}
 use Rattle.metadata.specs.Tables.{count_at, has_table, row_count}
 use Rattle.metadata.proofs.Counts.{count_is, counts_end, counts_more, place_first, place_more, place_small, step_small}

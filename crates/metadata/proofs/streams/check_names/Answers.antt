@@ -1,5 +1,5 @@
-use Rattle.std.proofs.Common.{rules, ◌≡◌, ℕ, List, Bool, true, false, [], Some, None, sym, ap, ◌∙◌, arith, drop, length}
-use Rattle.std.specs.Prelude.{not, ◌||◌}
+use Rattle.std.proofs.Common.{rules, ◌≡◌, ℕ, List, true, false, [], Some, sym, ap, ◌∙◌, drop}
+use Rattle.std.specs.Prelude.{◌||◌}
 use Rattle.std.specs.Str.{bytes_eq}
 use Rattle.std.proofs.lemmas.List.{drop_all}
 use Rattle.metadata.specs.Names.{is_taken}

@@ -1,6 +1,6 @@
-use Rattle.std.proofs.Common.{◌≡◌, ◌+◌, ◌≤◌, ℕ, Some, sym, ap, ◌∙◌, true, arith}
+use Rattle.std.proofs.Common.{◌≡◌, ◌+◌, ◌≤◌, sym, ap, true, arith}
 use Rattle.std.proofs.lemmas.Bool.Decides.{nat_tests}
-use Rattle.metadata.specs.Streams.{StreamHeader, header_named, is_inside}
+use Rattle.metadata.specs.Streams.{StreamHeader, is_inside}
 use Rattle.metadata.proofs.Headers.{found_inside}
 use Rattle.metadata.proofs.streams.span_named.Goals as goal
 

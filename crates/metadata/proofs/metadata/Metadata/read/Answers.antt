@@ -1,9 +1,8 @@
-use Rattle.std.proofs.Common.{rules, ◌≡◌, Option, None, Some, IfErr, OnOk, sym, ap, ◌∙◌, subst}
+use Rattle.std.proofs.Common.{rules, ◌≡◌, Option, None, IfErr, OnOk, sym, ◌∙◌, subst}
 use Rattle.rtr_bytes.specs.declared.fault.Fault.{Fault}
-use Rattle.rtr_bytes.specs.declared.fault.ReadRefusal.{ReadRefusal}
 use Rattle.rtr_bytes.specs.Checks.{RefusedBy, first_fault}
 use Rattle.metadata.specs.Checks.{header_checks, layout_checks, metadata_checks}
-use Rattle.metadata.proofs.AllChecks.{first_of_rows, header_fault, header_fault_is, no_header_fault, refused_by_header, refused_by_root, refused_by_streams}
+use Rattle.metadata.proofs.AllChecks.{first_of_rows, header_fault_is, no_header_fault, refused_by_header, refused_by_root, refused_by_streams}
 use Rattle.metadata.proofs.metadata.Metadata.read.Goals as goal
 
 pub returns-in_err-root-clause-malformed : goal.returns-in_err-root-clause-malformed

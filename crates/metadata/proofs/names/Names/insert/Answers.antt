@@ -1,7 +1,7 @@
-use Rattle.std.proofs.Common.{◌≡◌, ◌||◌, ℕ, List, Bool, not, sym, ap, ◌∙◌}
+use Rattle.std.proofs.Common.{◌||◌, not, sym, ap, ◌∙◌}
 use Rattle.std.specs.Str.{bytes_eq}
 use Rattle.metadata.specs.Names.{is_taken}
-use Rattle.metadata.proofs.Taken.{names_of, taken_in, taken_more}
+use Rattle.metadata.proofs.Taken.{taken_in, taken_more}
 use Rattle.metadata.proofs.names.Names.insert.Goals as goal
 
 pub returns-clause-free : goal.returns-clause-free
