@@ -1,0 +1,9 @@
+pub mod Schema
+pub mod Streams
+pub mod Tables
+pub mod Heaps
+pub mod Checks
+pub mod Steps
+pub mod Names
+pub mod Kept
+pub mod Marks

@@ -1,0 +1,162 @@
+use super::*;
+use rtr_bytes::Span;
+use std::alloc::Global;
+use std::test::Fail;
+
+/// Where the metadata is in the file.
+const SPAN: Span = Span { start: 4, len: 244 };
+
+/// Metadata at 4: its root and five streams.
+const ROOT: &str = "@4 42534a42 01000100 00000000 04000000 76310000 00000500
+@28 64000000 6a000000 237e0000 d0000000 08000000 23537472 696e6773 00000000
+@60 d8000000 08000000 23555300 e0000000 10000000 23475549 44000000 f0000000 04000000 23426c6f 62000000";
+
+/// The tables: one row of Module, two of TypeDef, one of Field and one of Assembly; then the heaps.
+const TABLES: &str =
+    "@104 00000000 02000001 15000000 01000000 @128 01000000 02000000 01000000 01000000
+@144 0000 0100 0100 0000 0000 @154 00000000 0300 0000 0000 0100 0100 @168 00000000 0300 0000 0400 0200 0100
+@182 0600 0300 0100 @188 00000000 0000 0000 0000 0000 00000000 0000 0100 0000
+@212 004d0054 00000000 @220 00036100 00 @228 01020304 @244 00020608";
+
+/// What is written over the file, and what is answered.
+const CHECKS: &str = " = ok
+@4 43 = check 30 fails at 4
+@16 05 = check 31 fails at 16
+@16 fc = check 31 fails at 16
+@96 23232323 23232323 23232323 23232323 23232323 23232323 23232323 23232323 = check 32 fails at 88
+@88 f1 = check 33 fails at 88
+@68 237e0000 = check 34 fails at 60
+@36 2378 = check 35 fails at 4
+@32 17 = check 36 fails at 104
+@110 08 = check 37 fails at 110
+@112 0f = check 38 fails at 112
+@135 01 = check 39 fails at 132
+@135 01 @112 0f = check 38 fails at 112
+@172 04 = ok
+@136 c8 = check 40 fails at 104
+@110 02 = check 40 fails at 104
+@128 00 = check 41 fails at 112
+@148 02 = check 42 fails at 148
+@215 ff = check 42 fails at 158
+@172 09 = check 42 fails at 172
+@172 09 @158 09 = check 42 fails at 158
+@176 07 = check 42 fails at 176
+@176 0c = check 42 fails at 176
+@178 03 = check 42 fails at 178
+@186 02 = check 42 fails at 186
+@178 00 = check 43 fails at 178
+@178 00 @186 02 = check 42 fails at 186";
+
+/// The file with some bytes written over it.
+fn file_with(alloc: Global, changes: &str) -> Result<Vec<u8>, Fail> {
+    let mut bytes = vec![in alloc; 0u8; 248]?;
+    for piece in [ROOT, TABLES, changes] {
+        let mut at = 0;
+        for word in piece.split_whitespace() {
+            match word.strip_prefix('@') {
+                Some(place) => at = place.parse::<usize>()?,
+                None => at = put_hex(alloc, &mut bytes, at, word)?,
+            }
+        }
+    }
+    Ok(bytes)
+}
+
+/// Writes bytes from a place on, and answers the place after them.
+fn put_hex(alloc: Global, bytes: &mut [u8], mut at: usize, word: &str) -> Result<usize, Fail> {
+    for byte in &hex::decode(alloc, word)? {
+        if let Some(old) = bytes.get_mut(at) {
+            *old = *byte;
+        }
+        at = at.saturating_add(1);
+    }
+    Ok(at)
+}
+
+#[test]
+fn checks(rt: HostRuntime) -> Result<(), Fail> {
+    let alloc = rt.alloc();
+    for row in CHECKS.split('\n') {
+        let (changes, expected) = row.split_once(" = ").ok_or("a row has two parts")?;
+        let bytes = file_with(alloc, changes)?;
+        assert!(rt; bytes.len() == 248);
+        let answer = match Metadata::read(alloc, &bytes, SPAN) {
+            Ok(_) => format!(in alloc; "ok")?,
+            Err(refusal) => format!(in alloc; "{refusal}")?,
+        };
+        assert_eq!(rt; answer.as_str(), expected, "{changes}");
+    }
+    Ok(())
+}
+
+#[test]
+fn reads(rt: HostRuntime) -> Result<(), Fail> {
+    let alloc = rt.alloc();
+    let bytes = file_with(alloc, "")?;
+    assert!(rt; bytes.len() == 248);
+    let metadata = Metadata::read(alloc, &bytes, SPAN)?;
+    assert_eq!(rt; metadata.rows(2), 2);
+    assert_eq!(rt; metadata.rows(64), 0);
+    assert_eq!(rt; metadata.column(&bytes, 2, 2, 1), Some(3));
+    assert_eq!(rt; metadata.column(&bytes, 0x20, 1, 7), Some(1));
+    assert_eq!(rt; metadata.column(&bytes, 2, 3, 0), None);
+    assert_eq!(rt; metadata.column(&bytes, 2, 0, 0), None);
+    assert_eq!(rt; metadata.column(&bytes, 2, 1, 6), None);
+    assert_eq!(rt; metadata.coded(0, 4), Some(0x0200_0001));
+    assert_eq!(rt; metadata.coded(0, 7), None);
+    assert_eq!(rt; metadata.coded(10, 0), None);
+    assert_eq!(rt; metadata.coded(13, 0), None);
+    assert_eq!(rt; metadata.string(&bytes, 3), Some("T"));
+    assert_eq!(rt; metadata.string(&bytes, 8), None);
+    assert!(rt; metadata.blob(&bytes, 1) == Some(&[6, 8]));
+    assert!(rt; metadata.blob(&bytes, 2).is_none());
+    assert!(rt; metadata.user_string(&bytes, 1) == Some(&[0x61, 0]));
+    assert!(rt; metadata.user_string(&bytes, 0).is_none());
+    Ok(())
+}
+
+/// The root and two streams, the header of the tables with one row of Module, 50,000 of TypeRef and one of Assembly, and
+/// the row of Module.
+const MANY_ROWS: &str = "42534a420100010000000000040000007631000000000200\
+380000000a280900237e0000422809000109 3d0023537472696e677300000000\
+0000000002000100030000000100000000000000000000000100000050c3000001000000\
+000000000000000000000000";
+
+/// Metadata at 0 whose 100,000 names are the ends of one text of 4 MB, which a byte ends.
+fn suffixes(alloc: Global, last: u8) -> Result<Vec<u8>, Fail> {
+    let mut head = String::new(alloc);
+    for word in MANY_ROWS.split_whitespace() {
+        head.push_str(word)?;
+    }
+    let mut bytes = hex::decode(alloc, head.as_str())?;
+    for row in 0u32..50_000 {
+        let name = 80 * row + 1;
+        bytes.extend_from_slice(&[0, 0, 0, 0])?;
+        bytes.extend_from_slice(&name.to_le_bytes())?;
+        bytes.extend_from_slice(&(name + 40).to_le_bytes())?;
+    }
+    bytes.extend_from_slice(&[0; 27])?;
+    let heap = vec![in alloc; b'a'; 3_999_999]?;
+    bytes.extend_from_slice(&heap)?;
+    bytes.push(last)?;
+    Ok(bytes)
+}
+
+#[test]
+fn one_long_text(rt: HostRuntime) -> Result<(), Fail> {
+    let alloc = rt.alloc();
+    for (last, expected) in [(0, "ok"), (0xFF, "check 42 fails at 108")] {
+        let bytes = suffixes(alloc, last)?;
+        assert_eq!(rt; bytes.len(), 4_600_131);
+        let span = Span {
+            start: 0,
+            len: 4_600_131,
+        };
+        let answer = match Metadata::read(alloc, &bytes, span) {
+            Ok(_) => format!(in alloc; "ok"),
+            Err(refusal) => format!(in alloc; "{refusal}"),
+        };
+        assert_eq!(rt; answer?.as_str(), expected);
+    }
+    Ok(())
+}
