@@ -192,7 +192,7 @@ fn shifted_register(rd: u8, rn: u8, imm6: u32, rm: u8, shift: u32) -> u32
     RD.put(rd as u32) + RN.put(rn as u32) + IMM6.put(imm6) + RM.put(rm as u32) + SHIFT.put(shift)
 }
 
-/// Operations on three registers.
+/// Operations with four registers.
 fn four_registers(rd: u8, rn: u8, ra: u8, rm: u8) -> u32
     requires { Fit table.multiply_add.fields (rd ∷ rn ∷ ra ∷ rm ∷ []) }
     ensures { result ≡ spread table.multiply_add.fields (rd ∷ rn ∷ ra ∷ rm ∷ []) }
@@ -200,7 +200,7 @@ fn four_registers(rd: u8, rn: u8, ra: u8, rm: u8) -> u32
     RD.put(rd as u32) + RN.put(rn as u32) + RA.put(ra as u32) + RM.put(rm as u32)
 }
 
-/// Operations on two registers.
+/// Operations with three registers.
 fn three_registers(rd: u8, rn: u8, rm: u8) -> u32
     requires { Fit table.multiply_long.fields (rd ∷ rn ∷ rm ∷ []) }
     ensures { result ≡ spread table.multiply_long.fields (rd ∷ rn ∷ rm ∷ []) }

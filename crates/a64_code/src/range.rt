@@ -193,14 +193,14 @@ fn shifted_register(rd: u8, rn: u8, imm6: u32, rm: u8, shift: u32) -> bool
         && SHIFT.fits(shift)
 }
 
-/// Operations on three registers.
+/// Operations with four registers.
 fn four_registers(rd: u8, rn: u8, ra: u8, rm: u8) -> bool
     ensures { result ≡ fit table.multiply_add.fields (rd ∷ rn ∷ ra ∷ rm ∷ []) }
 {
     RD.fits(rd as u32) && RN.fits(rn as u32) && RA.fits(ra as u32) && RM.fits(rm as u32)
 }
 
-/// Operations on two registers.
+/// Operations with three registers.
 fn three_registers(rd: u8, rn: u8, rm: u8) -> bool
     ensures { result ≡ fit table.multiply_long.fields (rd ∷ rn ∷ rm ∷ []) }
 {

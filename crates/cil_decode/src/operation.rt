@@ -57,7 +57,7 @@ pub enum BinaryOperator {
     Xor,
 }
 
-/// An operation of two numbers of one width that is refused where the exact result is out of range.
+/// An operation of two numbers of one width that throws where the exact result is out of range.
 #[derive(Clone, Copy, Debug, PartialEq, Eq)]
 pub enum CheckedOperator {
     /// The sum of signed numbers.
@@ -134,7 +134,7 @@ pub enum Operation {
     Call,
     /// Calls the method that the object's type has: `callvirt`.
     CallVirtual,
-    /// Makes an object and calls its constructor: `newobj`.
+    /// Creates an object and calls its constructor: `newobj`.
     NewObject,
     /// Returns: `ret`.
     Return,
@@ -142,31 +142,31 @@ pub enum Operation {
     Jump,
     /// Jumps on zero or null: `brfalse`.
     BranchFalse,
-    /// Jumps on all else: `brtrue`.
+    /// Jumps where the value is neither zero nor null: `brtrue`.
     BranchTrue,
-    /// Jumps where two values compare so: `beq` and its kin.
+    /// Jumps where two values compare so: `beq`, `bge` and the others.
     Branch(Comparison),
     /// Jumps to the target of an index: `switch`.
     Switch,
-    /// Takes two numbers to one: `add` and its kin.
+    /// Replaces two numbers by the result of an operator: `add`, `sub` and the others.
     Binary(BinaryOperator),
-    /// Takes two numbers to one that is in range: `add.ovf` and its kin.
+    /// The same, and throws where the result is out of range: `add.ovf` and the others.
     Checked(CheckedOperator),
     /// Shifts a number: `shl`, `shr`, `shr.un`.
     Shift(ShiftOperator),
-    /// The number below zero: `neg`.
+    /// Negates a number: `neg`.
     Negate,
-    /// The other bits: `not`.
+    /// Inverts all bits: `not`.
     Not,
-    /// Compares two values: `ceq` and its kin.
+    /// Compares two values: `ceq`, `cgt` and the others.
     Compare(Comparison),
     /// Converts a number: `conv`.
     Convert(IntegerType),
-    /// Pushes a text: `ldstr`.
+    /// Pushes a string: `ldstr`.
     LoadString,
-    /// The object where it fits a type, else refused: `castclass`.
+    /// Casts an object to a type, and throws where it has another: `castclass`.
     CastClass,
-    /// The object where it fits a type, else null: `isinst`.
+    /// Casts an object to a type, and gives null where it has another: `isinst`.
     IsInstance,
     /// Pushes an instance field: `ldfld`.
     LoadField,
@@ -176,7 +176,7 @@ pub enum Operation {
     LoadStaticField,
     /// Pops a static field: `stsfld`.
     StoreStaticField,
-    /// Makes an array: `newarr`.
+    /// Creates an array: `newarr`.
     NewArray,
     /// The length of an array: `ldlen`.
     LoadLength,
@@ -217,8 +217,7 @@ fn operation_of(instr: &Instr) -> Option<Operation>
 }
 
 impl Instr {
-    /// What the instruction does. `None` exactly where its opcode is outside the profile; no instruction that was
-    /// decoded has such an opcode.
+    /// What the instruction does. `None` exactly where its opcode is outside the profile.
     pub fn operation(&self) -> Option<Operation>
         ensures operation { result ≡ operation_of self.now }
         ensures known { is_some result ≡ is_some (operand_of self.now.form) }

@@ -199,6 +199,25 @@ fn codes(rt: HostRuntime) -> Result<(), Fail> {
     Ok(())
 }
 
+/// The forms that have an opcode are those of the table, each with its own row.
+#[test]
+fn forms(rt: HostRuntime) {
+    let mut count = 0usize;
+    for page in [0u16, 0xFE00] {
+        for byte in 0..=255u16 {
+            let form = page + byte;
+            match opcode_of(form) {
+                Some(opcode) => {
+                    assert_eq!(rt; opcode.form, form);
+                    count = count.saturating_add(1);
+                }
+                None => assert!(rt; OPCODES.iter().all(|opcode| opcode.form != form)),
+            }
+        }
+    }
+    assert_eq!(rt; count, OPCODES.len());
+}
+
 #[test]
 fn long_switch(rt: HostRuntime) -> Result<(), Fail> {
     let alloc = rt.alloc();

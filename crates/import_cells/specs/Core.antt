@@ -6,7 +6,7 @@ use Rattle.import_cells.specs.declared.event.CellEvent.{CellEvent}
 use Rattle.import_cells.specs.declared.event.CellEvent.TheVariants.{Loaded, Asked}
 use Rattle.import_cells.specs.Plan.{In, initial_of, bound_of, is_eager, first_of, IsWordOf, can_bind, IsReady, ready_cells}
 
--- an event, and the worker whose it is
+-- an event, and its worker
 pub record WorkerEvent : Type 0 where
   pub worker : ℕ
   pub event : CellEvent

@@ -123,7 +123,7 @@ impl Cells {
         ensures asked { Marks result.items (length self.plan) seat.view.asked }
         ensures seen { (c : ℕ) → In seat.view.seen c → slice_index_or result.items c false ≡ true }
         ensures ready { (c : ℕ) → IsReady self.plan c → slice_index_or result.items c false ≡ true }
-        // The seat has asked whatever any worker did.
+        // The seat has asked what the events of a run that fits its view ask.
         ensures all { (r : Run seat.view) × Marks result.items (length self.plan) (asked_after self.plan r.events) }
     {
         let Cells { plan: _, words } = self;

@@ -26,8 +26,8 @@ pub fn what_a_seat_knows()
     ensures first { FirstSeat }
 {}
 
-/// The answers to the calls of one seat are allowed. They are so with nobody else about, where the seat has
-/// the whole share and has asked eager cells alone.
+/// The answers to the calls of one seat are allowed. They are so without events of other workers,
+/// where the seat has the whole share and has asked eager cells alone.
 pub fn seats_answers_are_allowed()
     ensures each { SeatIsAllowed }
     ensures load { NextAnswers }

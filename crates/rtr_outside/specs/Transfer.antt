@@ -25,6 +25,11 @@ is_want_of_memory _ = false
 abbrev pub refusal_of : ErrorKind → FileRefusal
 refusal_of kind = if is_want_of_memory kind then NoMemory else Failed
 
+-- how many bytes a read gave, by its answer
+abbrev pub read_of : Result ℕ Error → Result ℕ FileRefusal
+read_of (Ok given) = Ok given
+read_of (Err error) = Err (refusal_of (error_kind error))
+
 -- how many bytes a write took, by its answer: one that took none is a failed call
 abbrev pub taken_of : Result ℕ Error → Result ℕ FileRefusal
 taken_of (Ok taken) = if taken == 0 then Err Failed else Ok taken

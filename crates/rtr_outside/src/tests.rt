@@ -192,6 +192,32 @@ fn reads_up_to_the_limit(rt: HostRuntime) {
     }
 }
 
+/// A reader whose one read fails with an error of this kind.
+#[derive(Drop)]
+struct Failing {
+    kind: io::ErrorKind,
+}
+
+impl io::Read for Failing {
+    fn read(&mut self, _buf: &mut [u8]) -> io::Result<usize> {
+        Err(io::Error::from(self.kind))
+    }
+}
+
+#[test]
+fn failed_reads(rt: HostRuntime) {
+    for (kind, refusal) in [
+        (io::ErrorKind::OutOfMemory, FileRefusal::NoMemory),
+        (io::ErrorKind::BrokenPipe, FileRefusal::Failed),
+    ] {
+        let answer = read_all(rt.alloc(), &mut Failing { kind });
+        assert!(rt;
+            matches!(answer, Err(given) if given == refusal),
+            "{kind:?}"
+        );
+    }
+}
+
 #[test]
 fn files_of_the_system(rt: HostRuntime) -> Result<(), Fail> {
     let (folder, name) = ("rtr_outside_test", "rtr_outside_test/one");

@@ -3,7 +3,7 @@
 ghost use Rattle.std.specs.Prelude.{◌≡◌, ◌≢◌, ◌≤◌, ◌<◌, ◌+◌, length, Ok, IfOk, IfSome, OnOk, IsErrOf};
 ghost use Rattle.std.specs.Io.KnownBytes.{Appends, IsAtEnd};
 ghost use Rattle.std.specs.IoError.{error_kind};
-ghost use Rattle.rtr_outside.specs.Transfer.{AppendsRead, ConsumesAtMost, refusal_of, taken_of};
+ghost use Rattle.rtr_outside.specs.Transfer.{AppendsRead, ConsumesAtMost, read_of, refusal_of, taken_of};
 
 use crate::files::{FILE_LIMIT, FileRefusal};
 use std::alloc::Global;
@@ -59,9 +59,22 @@ fn read_piece<F: Read>(
     ensures consumed { ConsumesAtMost (length piece.old) (F.remaining file.old) (F.remaining file.new) }
     ensures not_too_long { result ≢ Err FileRefusal.TooLong }
 {
-    let taken = file.read(piece).map_err(refusal_of)?;
+    let taken = read_of(file.read(piece))?;
     bytes.extend_from_slice(&piece[..taken])?;
     Ok(taken)
+}
+
+/// How many bytes a read gave, by its answer. `NoMemory` comes where its error's kind is [`ErrorKind::OutOfMemory`], and
+/// `Failed` where it is another.
+fn read_of(answer: io::Result<usize>) -> Result<usize, FileRefusal>
+    ensures read { result ≡ read_of answer }
+    ensures given { IfOk result (λ given. answer ≡ Ok given) }
+    ensures not_too_long { result ≢ Err FileRefusal.TooLong }
+{
+    match answer {
+        Ok(given) => Ok(given),
+        Err(error) => Err(refusal_of(error)),
+    }
 }
 
 /// Writes all bytes, as many at a time as the writer takes. A write that takes nothing is a failed call.
