@@ -1,5 +1,6 @@
 -- What a row fixes of its words, and the words outside the table.
-use Rattle.std.proofs.Common.{◌≡◌, ◌≢◌, ◌<◌, ◌==◌, ◌^◌, ◌↔◌, ℕ, Bool, true, false, cond, List, [], ◌∷◌, refl, sym, ap, ◌∙◌, bit_and, slice_index, position, Option, Some, None, option_and_then}
+use Rattle.std.proofs.Common.{◌≡◌, ◌≢◌, ◌<◌, ◌==◌, ◌^◌, ◌↔◌, ℕ, Bool, true, false, cond, List, [], ◌∷◌, refl, sym, ap}
+use Rattle.std.proofs.Common.{◌∙◌, bit_and, slice_index, position, Option, Some, None, option_and_then}
 use Rattle.std.specs.List.{All, AllByRecursion}
 use Rattle.std.proofs.lemmas.List.Elements.{All-from_recursion, recursion_from_All}
 use Rattle.std.specs.Option.{option_or}
@@ -18,17 +19,21 @@ row_in_order : (inst : Inst) → in_order (parts_of inst).row ≡ true
 row_in_order (insts.AddImmediate base rd rn imm12 sh) = refl
 row_in_order inst = refl
 
-pub row_fixes : (inst : Inst) → InRange inst → bit_and (word_of inst) (mask (parts_of inst).row.fields) ≡ slice_index (parts_of inst).row.bases (parts_of inst).base
+pub row_fixes : (inst : Inst) → InRange inst
+    → bit_and (word_of inst) (mask (parts_of inst).row.fields) ≡ slice_index (parts_of inst).row.bases (parts_of inst).base
 row_fixes inst h =
-    written_fixed (parts_of inst).row (is_in_order (parts_of inst).row (row_in_order inst)) (parts_of inst).base (parts_of inst).values h.base h.fields
+    written_fixed (parts_of inst).row (is_in_order (parts_of inst).row (row_in_order inst)) (parts_of inst).base
+    (parts_of inst).values h.base h.fields
 
 pub row_holds : (inst : Inst) → InRange inst → held (word_of inst) (parts_of inst).row.fields ≡ (parts_of inst).values
 row_holds inst h =
-    written_held (parts_of inst).row (is_in_order (parts_of inst).row (row_in_order inst)) (parts_of inst).base (parts_of inst).values h.base h.fields
+    written_held (parts_of inst).row (is_in_order (parts_of inst).row (row_in_order inst)) (parts_of inst).base
+    (parts_of inst).values h.base h.fields
 
 pub word_small : (inst : Inst) → InRange inst → word_of inst < 2 ^ 32
 word_small inst h =
-    written_below (parts_of inst).row (is_in_order (parts_of inst).row (row_in_order inst)) (parts_of inst).base (parts_of inst).values h.base h.fields
+    written_below (parts_of inst).row (is_in_order (parts_of inst).row (row_in_order inst)) (parts_of inst).base
+    (parts_of inst).values h.base h.fields
 
 -- ---- outside
 
@@ -64,12 +69,15 @@ allowed_none inst h = by_test (is_allowed inst) refl h
 
 none_has_not : (row : Row) (word : ℕ) → in_order row ≡ true → by_row row word ≡ None → HasNot word row
 none_has_not row word ordered none base within e =
-    allowed_none (row.inst base (λ field. bits field word)) (sym (ap (option_and_then (λ n. allowed (row.inst n (λ field. bits field word)))) (base_found row (is_in_order row ordered) word base within e)) ∙ none)
+    allowed_none (row.inst base (λ field. bits field word))
+    (sym (ap (option_and_then (λ n. allowed (row.inst n (λ field. bits field word))))
+    (base_found row (is_in_order row ordered) word base within e)) ∙ none)
 
 has_not_none : (row : Row) (word : ℕ) → HasNot word row → by_row row word ≡ None
 has_not_none row word has_not = by_place (position (λ base. base == bit_and word (mask row.fields)) row.bases) refl
   where
-    by_place : (o : Option ℕ) → position (λ base. base == bit_and word (mask row.fields)) row.bases ≡ o → option_and_then (λ base. allowed (row.inst base (λ field. bits field word))) o ≡ None
+    by_place : (o : Option ℕ) → position (λ base. base == bit_and word (mask row.fields)) row.bases ≡ o
+        → option_and_then (λ base. allowed (row.inst base (λ field. bits field word))) o ≡ None
     by_place None e = refl
     by_place (Some base) e =
         let at = position-Some (λ b. b == bit_and word (mask row.fields)) row.bases base 0 e in
@@ -79,7 +87,8 @@ rows_have_not : (rows : List Row) (word : ℕ) → AllSound rows → by_rows row
 rows_have_not [] word sound none = tt
 rows_have_not (row ∷ rows) word sound none = by_first (by_row row word) refl (rows_have_not rows word sound.2) none
   where
-    by_first : (o : Option Inst) → by_row row word ≡ o → (by_rows rows word ≡ None → AllByRecursion (HasNot word) rows) → option_or o (by_rows rows word) ≡ None → HasNot word row × AllByRecursion (HasNot word) rows
+    by_first : (o : Option Inst) → by_row row word ≡ o → (by_rows rows word ≡ None → AllByRecursion (HasNot word) rows)
+        → option_or o (by_rows rows word) ≡ None → HasNot word row × AllByRecursion (HasNot word) rows
     by_first None e later rest = (none_has_not row word sound.0 e, later rest)
     by_first (Some inst) e later rest = absurd (differ rest)
       where
@@ -93,5 +102,7 @@ have_not_rows (row ∷ rows) word h =
 
 pub outside_rows : (word : ℕ) → (instruction word ≡ None) ↔ All (HasNot word) table
 unfolding instruction
-outside_rows word =
-    (λ none. All-from_recursion (HasNot word) table (rows_have_not table word table_sound none), λ h. have_not_rows table word (recursion_from_All (HasNot word) table h))
+outside_rows word = (
+  λ none. All-from_recursion (HasNot word) table (rows_have_not table word table_sound none),
+  λ h. have_not_rows table word (recursion_from_All (HasNot word) table h),
+)

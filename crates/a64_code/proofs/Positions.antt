@@ -5,7 +5,8 @@ use Rattle.std.proofs.lemmas.List.Sums.{position_or_len_is}
 use Rattle.std.proofs.lemmas.Grind.{common_steps}
 
 -- the first that passes, by its place
-pub position_here : (p : ℕ → Bool) (xs : List ℕ) (i : ℕ) → i < length xs → ((k : ℕ) → k < i → p (slice_index xs k) ≡ false) → p (slice_index xs i) ≡ true → position p xs ≡ Some i
+pub position_here : (p : ℕ → Bool) (xs : List ℕ) (i : ℕ) → i < length xs
+    → ((k : ℕ) → k < i → p (slice_index xs k) ≡ false) → p (slice_index xs i) ≡ true → position p xs ≡ Some i
 position_here p xs i within before here =
     let e : position_or_len p xs ≡ i = position_or_len_is p xs i 0 (omega arith) before (λ _. here) in
     grind (arith, common_steps)

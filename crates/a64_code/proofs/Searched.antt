@@ -1,5 +1,7 @@
 -- A search over rows: rows that cannot have a word are passed over.
-use Rattle.std.proofs.Common.{◌≡◌, ◌≢◌, subst, ◌<◌, ◌≤◌, ◌+◌, ◌-◌, ◌*◌, ◌/◌, ◌%◌, ◌^◌, ◌==◌, ℕ, Bool, true, false, not, cond, List, [], ◌∷◌, ◌++◌, length, zero, suc, refl, sym, ap, ◌∙◌, arith, bit_and, slice_index, Some, None, option_and_then}
+use Rattle.std.proofs.Common.{◌≡◌, ◌≢◌, subst, ◌<◌, ◌≤◌, ◌+◌, ◌-◌, ◌*◌, ◌/◌, ◌%◌, ◌^◌, ◌==◌, ℕ, Bool, true, false, not}
+use Rattle.std.proofs.Common.{cond, List, [], ◌∷◌, ◌++◌, length, zero, suc, refl, sym, ap, ◌∙◌, arith, bit_and}
+use Rattle.std.proofs.Common.{slice_index, Some, None, option_and_then}
 use Rattle.std.specs.List.{list_all}
 use Rattle.std.specs.Option.{option_or}
 use Rattle.std.proofs.lemmas.Bool.{eqb-true, eq-eqb, not-true, false_from_ne_true}
@@ -13,9 +15,11 @@ use Rattle.a64_code.specs.Table.{Row}
 use Rattle.a64_code.specs.Words.{bits, mask, allowed, by_row, by_rows}
 
 -- none of the bases of a row is what the word has in its fixed bits
-pub passed_over : (row : Row) (word : ℕ) → ((k : ℕ) → k < length row.bases → (slice_index row.bases k == bit_and word (mask row.fields)) ≡ false) → by_row row word ≡ None
+pub passed_over : (row : Row) (word : ℕ)
+    → ((k : ℕ) → k < length row.bases → (slice_index row.bases k == bit_and word (mask row.fields)) ≡ false) → by_row row word ≡ None
 passed_over row word h =
-    ap (option_and_then (λ base. allowed (row.inst base (λ field. bits field word)))) (position_nowhere (λ base. base == bit_and word (mask row.fields)) row.bases h)
+    ap (option_and_then (λ base. allowed (row.inst base (λ field. bits field word))))
+    (position_nowhere (λ base. base == bit_and word (mask row.fields)) row.bases h)
 
 -- a test of two numbers that a test made false refutes
 refuted : (a b c d : ℕ) → not (c == d) ≡ true → (a ≡ b → c ≡ d) → (a == b) ≡ false
@@ -38,16 +42,21 @@ base_apart row other base theirs = not (bit_and theirs (mask row.fields) == bit_
 abbrev pub rows_apart : Row → Row → Bool
 rows_apart row other = list_all (λ base. list_all (base_apart row other base) other.bases) row.bases
 
-pub apart_passed : (row other : Row) (word base : ℕ) → rows_apart row other ≡ true → base < length row.bases → bit_and word (mask row.fields) ≡ slice_index row.bases base → by_row other word ≡ None
+pub apart_passed : (row other : Row) (word base : ℕ) → rows_apart row other ≡ true → base < length row.bases
+    → bit_and word (mask row.fields) ≡ slice_index row.bases base → by_row other word ≡ None
 apart_passed row other word base h within e =
     let mine = slice_index row.bases base in
     let all : list_all (base_apart row other mine) other.bases ≡ true =
     all_at (λ b. list_all (base_apart row other b) other.bases) row.bases base h within in
-    let shared = λ (theirs : ℕ) (d : theirs ≡ bit_and word (mask other.fields)). ap (λ n. bit_and n (mask row.fields)) d ∙ either_order word (mask other.fields) (mask row.fields) ∙ ap (λ n. bit_and n (mask other.fields)) e in
-    passed_over other word (λ k below. refuted (slice_index other.bases k) (bit_and word (mask other.fields)) _ _ (all_at (base_apart row other mine) other.bases k all below) (shared (slice_index other.bases k)))
+    let shared = λ (theirs : ℕ) (d : theirs ≡ bit_and word (mask other.fields)). ap (λ n. bit_and n (mask row.fields)) d
+    ∙ either_order word (mask other.fields) (mask row.fields) ∙ ap (λ n. bit_and n (mask other.fields)) e in
+    passed_over other word (λ k below. refuted (slice_index other.bases k) (bit_and word (mask other.fields)) _ _
+    (all_at (base_apart row other mine) other.bases k all below) (shared (slice_index other.bases k)))
 
 -- the row that a word has is found after rows apart from it
-pub found : (before rest : List Row) (row : Row) (word base : ℕ) (inst : Inst) → list_all (rows_apart row) before ≡ true → base < length row.bases → bit_and word (mask row.fields) ≡ slice_index row.bases base → by_row row word ≡ Some inst → by_rows (before ++ row ∷ rest) word ≡ Some inst
+pub found : (before rest : List Row) (row : Row) (word base : ℕ) (inst : Inst) → list_all (rows_apart row) before ≡ true
+    → base < length row.bases → bit_and word (mask row.fields) ≡ slice_index row.bases base
+    → by_row row word ≡ Some inst → by_rows (before ++ row ∷ rest) word ≡ Some inst
 found [] rest row word base inst h within e here = ap (λ o. option_or o (by_rows rest word)) here
 found (other ∷ before) rest row word base inst h within e here =
     let split = both (rows_apart row other) (list_all (rows_apart row) before) h in
@@ -74,8 +83,10 @@ in_group group (row ∷ rows) = cond (outside_group group row) (in_group group r
 group_passed : (row : Row) (word group : ℕ) → word / 2 ^ 24 % 32 ≡ group → outside_group group row ≡ true → by_row row word ≡ None
 group_passed row word group g h =
     let fixed = mask row.fields in
-    let shared = λ (base : ℕ) (d : base ≡ bit_and word fixed). ap (λ n. bit_and n group_bits) d ∙ either_order word fixed group_bits ∙ ap (λ n. bit_and n fixed) (and_high word 5 24 ∙ ap (λ n. n * 2 ^ 24) g) in
-    passed_over row word (λ k below. refuted (slice_index row.bases k) (bit_and word fixed) _ _ (all_at (base_outside group fixed) row.bases k h below) (shared (slice_index row.bases k)))
+    let shared = λ (base : ℕ) (d : base ≡ bit_and word fixed). ap (λ n. bit_and n group_bits) d
+    ∙ either_order word fixed group_bits ∙ ap (λ n. bit_and n fixed) (and_high word 5 24 ∙ ap (λ n. n * 2 ^ 24) g) in
+    passed_over row word (λ k below. refuted (slice_index row.bases k) (bit_and word fixed) _ _
+    (all_at (base_outside group fixed) row.bases k h below) (shared (slice_index row.bases k)))
 
 -- the rows of a word's group are all that it can have
 pub group_alone : (rows : List Row) (word group : ℕ) → word / 2 ^ 24 % 32 ≡ group → by_rows rows word ≡ by_rows (in_group group rows) word
@@ -84,12 +95,14 @@ group_alone (row ∷ rows) word group g =
     let rest = group_alone rows word group g in
     by_test (outside_group group row) refl rest
   where
-    by_test : (b : Bool) → outside_group group row ≡ b → by_rows rows word ≡ by_rows (in_group group rows) word → by_rows (row ∷ rows) word ≡ by_rows (cond b (in_group group rows) (row ∷ in_group group rows)) word
+    by_test : (b : Bool) → outside_group group row ≡ b → by_rows rows word ≡ by_rows (in_group group rows) word
+        → by_rows (row ∷ rows) word ≡ by_rows (cond b (in_group group rows) (row ∷ in_group group rows)) word
     by_test true e rest = ap (λ o. option_or o (by_rows rows word)) (group_passed row word group g e) ∙ rest
     by_test false e rest = ap (option_or (by_row row word)) rest
 
 -- so rows that have those of the group in common with others answer the same
-pub group_answers : (all rows : List Row) (word group : ℕ) → word / 2 ^ 24 % 32 ≡ group → in_group group rows ≡ in_group group all → by_rows rows word ≡ by_rows all word
+pub group_answers : (all rows : List Row) (word group : ℕ) → word / 2 ^ 24 % 32 ≡ group
+    → in_group group rows ≡ in_group group all → by_rows rows word ≡ by_rows all word
 group_answers all rows word group g same =
     group_alone rows word group g ∙ ap (λ rs. by_rows rs word) same ∙ sym (group_alone all word group g)
 
@@ -113,6 +126,9 @@ from_range P start (suc count) n holds low high =
         differ : false ≡ true → ⊥
         differ d = cc
 
-pub groups_answer : (all rows : List Row) (word start count : ℕ) → AllFrom (λ group. in_group group rows ≡ in_group group all) start count → start ≤ word / 2 ^ 24 % 32 → word / 2 ^ 24 % 32 < start + count → by_rows rows word ≡ by_rows all word
+pub groups_answer : (all rows : List Row) (word start count : ℕ)
+    → AllFrom (λ group. in_group group rows ≡ in_group group all) start count → start ≤ word / 2 ^ 24 % 32
+    → word / 2 ^ 24 % 32 < start + count → by_rows rows word ≡ by_rows all word
 groups_answer all rows word start count same low high =
-    group_answers all rows word (word / 2 ^ 24 % 32) refl (from_range (λ group. in_group group rows ≡ in_group group all) start count (word / 2 ^ 24 % 32) same low high)
+    group_answers all rows word (word / 2 ^ 24 % 32) refl
+    (from_range (λ group. in_group group rows ≡ in_group group all) start count (word / 2 ^ 24 % 32) same low high)

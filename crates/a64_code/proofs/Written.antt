@@ -1,5 +1,7 @@
 -- A row that is in order: what is written by it is read by it, and nothing else.
-use Rattle.std.proofs.Common.{◌≡◌, ◌<◌, ◌+◌, ◌^◌, ◌==◌, ◌&&◌, ℕ, Bool, true, false, not, nat_lt, List, [], ◌∷◌, length, zero, suc, refl, sym, ap, ◌∙◌, arith, bit_and, slice_index, position, Some, option_and_then}
+use Rattle.std.proofs.Common.{◌≡◌, ◌<◌, ◌+◌, ◌^◌, ◌==◌, ◌&&◌, ℕ, Bool, true, false, not, nat_lt, List, [], ◌∷◌, length}
+use Rattle.std.proofs.Common.{zero, suc, refl, sym, ap, ◌∙◌, arith, bit_and, slice_index, position, Some}
+use Rattle.std.proofs.Common.{option_and_then}
 use Rattle.std.specs.List.{list_all}
 use Rattle.std.proofs.lemmas.Bool.{eqb-true, eq-eqb, ltb-true}
 use Rattle.a64_code.proofs.Positions.{position_here}
@@ -18,7 +20,8 @@ are_distinct (n ∷ ns) = list_all (λ m. not (n == m)) ns && are_distinct ns
 
 abbrev pub in_order : Row → Bool
 in_order row =
-    are_apart row.fields && (nat_lt (covered row.fields) (2 ^ 32) && (list_all (is_base (covered row.fields)) row.bases && are_distinct row.bases))
+    are_apart row.fields && (nat_lt (covered row.fields) (2 ^ 32)
+    && (list_all (is_base (covered row.fields)) row.bases && are_distinct row.bases))
 
 -- what a test of all elements says of one of them
 pub all_at : (p : ℕ → Bool) (xs : List ℕ) (k : ℕ) → list_all p xs ≡ true → k < length xs → p (slice_index xs k) ≡ true
@@ -50,7 +53,9 @@ is_in_order row h =
     let apart = both (are_apart row.fields) _ h in
     let small = both (nat_lt (covered row.fields) (2 ^ 32)) _ apart.1 in
     let bases = both (list_all (is_base (covered row.fields)) row.bases) _ small.1 in
-    let one = λ (k : ℕ) (within : k < length row.bases). both (nat_lt (slice_index row.bases k) (2 ^ 32)) _ (all_at (is_base (covered row.fields)) row.bases k bases.0 within) in
+    let one =
+    λ (k : ℕ) (within : k < length row.bases). both (nat_lt (slice_index row.bases k) (2 ^ 32)) _
+    (all_at (is_base (covered row.fields)) row.bases k bases.0 within) in
     record {
       apart = apart.0;
       small = ltb-true _ _ small.0;
@@ -64,24 +69,32 @@ is_in_order row h =
 abbrev pub written : Row → ℕ → List ℕ → ℕ
 written row base values = slice_index row.bases base + spread row.fields values
 
-pub written_fixed : (row : Row) → InOrder row → (base : ℕ) (values : List ℕ) → base < length row.bases → Fit row.fields values → bit_and (written row base values) (mask row.fields) ≡ slice_index row.bases base
+pub written_fixed : (row : Row) → InOrder row → (base : ℕ) (values : List ℕ) → base < length row.bases
+    → Fit row.fields values → bit_and (written row base values) (mask row.fields) ≡ slice_index row.bases base
 written_fixed row o base values within fit =
     fixed_bits (slice_index row.bases base) row.fields values o.apart o.small (o.words base within) (o.clear base within) fit
 
-pub written_below : (row : Row) → InOrder row → (base : ℕ) (values : List ℕ) → base < length row.bases → Fit row.fields values → written row base values < 2 ^ 32
+pub written_below : (row : Row) → InOrder row → (base : ℕ) (values : List ℕ) → base < length row.bases
+    → Fit row.fields values → written row base values < 2 ^ 32
 written_below row o base values within fit =
     word_below (slice_index row.bases base) row.fields values o.apart o.small (o.words base within) (o.clear base within) fit
 
-pub written_held : (row : Row) → InOrder row → (base : ℕ) (values : List ℕ) → base < length row.bases → Fit row.fields values → held (written row base values) row.fields ≡ values
+pub written_held : (row : Row) → InOrder row → (base : ℕ) (values : List ℕ) → base < length row.bases
+    → Fit row.fields values → held (written row base values) row.fields ≡ values
 written_held row o base values within fit =
     held_back (slice_index row.bases base) row.fields values o.apart fit (o.clear base within)
 
 -- the base that a word has
-pub base_found : (row : Row) → InOrder row → (word base : ℕ) → base < length row.bases → bit_and word (mask row.fields) ≡ slice_index row.bases base → position (λ b. b == bit_and word (mask row.fields)) row.bases ≡ Some base
+pub base_found : (row : Row) → InOrder row → (word base : ℕ) → base < length row.bases
+    → bit_and word (mask row.fields) ≡ slice_index row.bases base
+    → position (λ b. b == bit_and word (mask row.fields)) row.bases ≡ Some base
 base_found row o word base within e =
-    position_here (λ b. b == bit_and word (mask row.fields)) row.bases base within (λ k before. ap (λ n. slice_index row.bases k == n) e ∙ o.distinct k base before within) (eq-eqb _ _ (sym e))
+    position_here (λ b. b == bit_and word (mask row.fields)) row.bases base within
+    (λ k before. ap (λ n. slice_index row.bases k == n) e ∙ o.distinct k base before within) (eq-eqb _ _ (sym e))
 
-pub read_back : (row : Row) → InOrder row → (base : ℕ) (values : List ℕ) → base < length row.bases → Fit row.fields values → by_row row (written row base values) ≡ allowed (row.inst base (λ field. bits field (written row base values)))
+pub read_back : (row : Row) → InOrder row → (base : ℕ) (values : List ℕ) → base < length row.bases
+    → Fit row.fields values → by_row row (written row base values) ≡ allowed (row.inst base (λ field. bits field (written row base values)))
 read_back row o base values within fit =
     let word = written row base values in
-    ap (option_and_then (λ n. allowed (row.inst n (λ field. bits field word)))) (base_found row o word base within (written_fixed row o base values within fit))
+    ap (option_and_then (λ n. allowed (row.inst n (λ field. bits field word))))
+    (base_found row o word base within (written_fixed row o base values within fit))

@@ -98,37 +98,44 @@ select_cond = field 12 4
 -- ADD w, ADD x, ADDS w, ADDS x
 abbrev pub add_immediate : Row
 add_immediate =
-    row (0x11000000 ∷ 0x91000000 ∷ 0x31000000 ∷ 0xB1000000 ∷ []) (rd ∷ rn ∷ imm12 ∷ sh ∷ []) (λ base at. insts.AddImmediate base (at rd) (at rn) (at imm12) (at sh))
+    row (0x11000000 ∷ 0x91000000 ∷ 0x31000000 ∷ 0xB1000000 ∷ []) (rd ∷ rn ∷ imm12 ∷ sh ∷ [])
+    (λ base at. insts.AddImmediate base (at rd) (at rn) (at imm12) (at sh))
 
 -- SUB w, SUB x, SUBS w, SUBS x
 abbrev pub sub_immediate : Row
 sub_immediate =
-    row (0x51000000 ∷ 0xD1000000 ∷ 0x71000000 ∷ 0xF1000000 ∷ []) (rd ∷ rn ∷ imm12 ∷ sh ∷ []) (λ base at. insts.SubImmediate base (at rd) (at rn) (at imm12) (at sh))
+    row (0x51000000 ∷ 0xD1000000 ∷ 0x71000000 ∷ 0xF1000000 ∷ []) (rd ∷ rn ∷ imm12 ∷ sh ∷ [])
+    (λ base at. insts.SubImmediate base (at rd) (at rn) (at imm12) (at sh))
 
 -- ADD w, ADD x, ADDS w, ADDS x
 abbrev pub add_register : Row
 add_register =
-    row (0x0B000000 ∷ 0x8B000000 ∷ 0x2B000000 ∷ 0xAB000000 ∷ []) (rd ∷ rn ∷ imm6 ∷ rm ∷ shift ∷ []) (λ base at. insts.AddRegister base (at rd) (at rn) (at imm6) (at rm) (at shift))
+    row (0x0B000000 ∷ 0x8B000000 ∷ 0x2B000000 ∷ 0xAB000000 ∷ []) (rd ∷ rn ∷ imm6 ∷ rm ∷ shift ∷ [])
+    (λ base at. insts.AddRegister base (at rd) (at rn) (at imm6) (at rm) (at shift))
 
 -- SUB w, SUB x, SUBS w, SUBS x
 abbrev pub sub_register : Row
 sub_register =
-    row (0x4B000000 ∷ 0xCB000000 ∷ 0x6B000000 ∷ 0xEB000000 ∷ []) (rd ∷ rn ∷ imm6 ∷ rm ∷ shift ∷ []) (λ base at. insts.SubRegister base (at rd) (at rn) (at imm6) (at rm) (at shift))
+    row (0x4B000000 ∷ 0xCB000000 ∷ 0x6B000000 ∷ 0xEB000000 ∷ []) (rd ∷ rn ∷ imm6 ∷ rm ∷ shift ∷ [])
+    (λ base at. insts.SubRegister base (at rd) (at rn) (at imm6) (at rm) (at shift))
 
 -- AND w, AND x, ORR w, ORR x, EOR w, EOR x
 abbrev pub logical_register : Row
 logical_register =
-    row (0x0A000000 ∷ 0x8A000000 ∷ 0x2A000000 ∷ 0xAA000000 ∷ 0x4A000000 ∷ 0xCA000000 ∷ []) (rd ∷ rn ∷ imm6 ∷ rm ∷ shift ∷ []) (λ base at. insts.LogicalRegister base (at rd) (at rn) (at imm6) (at rm) (at shift))
+    row (0x0A000000 ∷ 0x8A000000 ∷ 0x2A000000 ∷ 0xAA000000 ∷ 0x4A000000 ∷ 0xCA000000 ∷ [])
+    (rd ∷ rn ∷ imm6 ∷ rm ∷ shift ∷ []) (λ base at. insts.LogicalRegister base (at rd) (at rn) (at imm6) (at rm) (at shift))
 
 -- ORN w, ORN x
 abbrev pub or_not_register : Row
 or_not_register =
-    row (0x2A200000 ∷ 0xAA200000 ∷ []) (rd ∷ rn ∷ imm6 ∷ rm ∷ shift ∷ []) (λ base at. insts.OrNotRegister base (at rd) (at rn) (at imm6) (at rm) (at shift))
+    row (0x2A200000 ∷ 0xAA200000 ∷ []) (rd ∷ rn ∷ imm6 ∷ rm ∷ shift ∷ [])
+    (λ base at. insts.OrNotRegister base (at rd) (at rn) (at imm6) (at rm) (at shift))
 
 -- MADD w, MADD x, MSUB w, MSUB x
 abbrev pub multiply_add : Row
 multiply_add =
-    row (0x1B000000 ∷ 0x9B000000 ∷ 0x1B008000 ∷ 0x9B008000 ∷ []) (rd ∷ rn ∷ ra ∷ rm ∷ []) (λ base at. insts.MultiplyAdd base (at rd) (at rn) (at ra) (at rm))
+    row (0x1B000000 ∷ 0x9B000000 ∷ 0x1B008000 ∷ 0x9B008000 ∷ []) (rd ∷ rn ∷ ra ∷ rm ∷ [])
+    (λ base at. insts.MultiplyAdd base (at rd) (at rn) (at ra) (at rm))
 
 -- SMULL, UMULL
 abbrev pub multiply_long : Row
@@ -148,32 +155,38 @@ divide =
 -- LSLV w, LSLV x, LSRV w, LSRV x, ASRV w, ASRV x
 abbrev pub shift_variable : Row
 shift_variable =
-    row (0x1AC02000 ∷ 0x9AC02000 ∷ 0x1AC02400 ∷ 0x9AC02400 ∷ 0x1AC02800 ∷ 0x9AC02800 ∷ []) (rd ∷ rn ∷ rm ∷ []) (λ base at. insts.ShiftVariable base (at rd) (at rn) (at rm))
+    row (0x1AC02000 ∷ 0x9AC02000 ∷ 0x1AC02400 ∷ 0x9AC02400 ∷ 0x1AC02800 ∷ 0x9AC02800 ∷ []) (rd ∷ rn ∷ rm ∷ [])
+    (λ base at. insts.ShiftVariable base (at rd) (at rn) (at rm))
 
 -- SBFM w, SBFM x, UBFM w, UBFM x
 abbrev pub bitfield : Row
 bitfield =
-    row (0x13000000 ∷ 0x93400000 ∷ 0x53000000 ∷ 0xD3400000 ∷ []) (rd ∷ rn ∷ imms ∷ immr ∷ []) (λ base at. insts.Bitfield base (at rd) (at rn) (at imms) (at immr))
+    row (0x13000000 ∷ 0x93400000 ∷ 0x53000000 ∷ 0xD3400000 ∷ []) (rd ∷ rn ∷ imms ∷ immr ∷ [])
+    (λ base at. insts.Bitfield base (at rd) (at rn) (at imms) (at immr))
 
 -- MOVN w, MOVN x, MOVZ w, MOVZ x, MOVK w, MOVK x
 abbrev pub move_wide : Row
 move_wide =
-    row (0x12800000 ∷ 0x92800000 ∷ 0x52800000 ∷ 0xD2800000 ∷ 0x72800000 ∷ 0xF2800000 ∷ []) (rd ∷ imm16 ∷ hw ∷ []) (λ base at. insts.MoveWide base (at rd) (at imm16) (at hw))
+    row (0x12800000 ∷ 0x92800000 ∷ 0x52800000 ∷ 0xD2800000 ∷ 0x72800000 ∷ 0xF2800000 ∷ []) (rd ∷ imm16 ∷ hw ∷ [])
+    (λ base at. insts.MoveWide base (at rd) (at imm16) (at hw))
 
 -- STRB, STRH, STR w, STR x
 abbrev pub store_immediate : Row
 store_immediate =
-    row (0x39000000 ∷ 0x79000000 ∷ 0xB9000000 ∷ 0xF9000000 ∷ []) (rt ∷ rn ∷ imm12 ∷ []) (λ base at. insts.StoreImmediate base (at rt) (at rn) (at imm12))
+    row (0x39000000 ∷ 0x79000000 ∷ 0xB9000000 ∷ 0xF9000000 ∷ []) (rt ∷ rn ∷ imm12 ∷ [])
+    (λ base at. insts.StoreImmediate base (at rt) (at rn) (at imm12))
 
 -- LDRB, LDRH, LDR w, LDR x
 abbrev pub load_immediate : Row
 load_immediate =
-    row (0x39400000 ∷ 0x79400000 ∷ 0xB9400000 ∷ 0xF9400000 ∷ []) (rt ∷ rn ∷ imm12 ∷ []) (λ base at. insts.LoadImmediate base (at rt) (at rn) (at imm12))
+    row (0x39400000 ∷ 0x79400000 ∷ 0xB9400000 ∷ 0xF9400000 ∷ []) (rt ∷ rn ∷ imm12 ∷ [])
+    (λ base at. insts.LoadImmediate base (at rt) (at rn) (at imm12))
 
 -- LDRSB x, LDRSH x, LDRSW
 abbrev pub load_signed_immediate_64 : Row
 load_signed_immediate_64 =
-    row (0x39800000 ∷ 0x79800000 ∷ 0xB9800000 ∷ []) (rt ∷ rn ∷ imm12 ∷ []) (λ base at. insts.LoadSignedImmediate64 base (at rt) (at rn) (at imm12))
+    row (0x39800000 ∷ 0x79800000 ∷ 0xB9800000 ∷ []) (rt ∷ rn ∷ imm12 ∷ [])
+    (λ base at. insts.LoadSignedImmediate64 base (at rt) (at rn) (at imm12))
 
 -- LDRSB w, LDRSH w
 abbrev pub load_signed_immediate_32 : Row
@@ -183,17 +196,20 @@ load_signed_immediate_32 =
 -- STRB, STRH, STR w, STR x
 abbrev pub store_register : Row
 store_register =
-    row (0x38206800 ∷ 0x78206800 ∷ 0xB8206800 ∷ 0xF8206800 ∷ []) (rt ∷ rn ∷ s ∷ rm ∷ []) (λ base at. insts.StoreRegister base (at rt) (at rn) (at s) (at rm))
+    row (0x38206800 ∷ 0x78206800 ∷ 0xB8206800 ∷ 0xF8206800 ∷ []) (rt ∷ rn ∷ s ∷ rm ∷ [])
+    (λ base at. insts.StoreRegister base (at rt) (at rn) (at s) (at rm))
 
 -- LDRB, LDRH, LDR w, LDR x
 abbrev pub load_register : Row
 load_register =
-    row (0x38606800 ∷ 0x78606800 ∷ 0xB8606800 ∷ 0xF8606800 ∷ []) (rt ∷ rn ∷ s ∷ rm ∷ []) (λ base at. insts.LoadRegister base (at rt) (at rn) (at s) (at rm))
+    row (0x38606800 ∷ 0x78606800 ∷ 0xB8606800 ∷ 0xF8606800 ∷ []) (rt ∷ rn ∷ s ∷ rm ∷ [])
+    (λ base at. insts.LoadRegister base (at rt) (at rn) (at s) (at rm))
 
 -- LDRSB x, LDRSH x, LDRSW, LDRSB w, LDRSH w
 abbrev pub load_signed_register : Row
 load_signed_register =
-    row (0x38A06800 ∷ 0x78A06800 ∷ 0xB8A06800 ∷ 0x38E06800 ∷ 0x78E06800 ∷ []) (rt ∷ rn ∷ s ∷ rm ∷ []) (λ base at. insts.LoadSignedRegister base (at rt) (at rn) (at s) (at rm))
+    row (0x38A06800 ∷ 0x78A06800 ∷ 0xB8A06800 ∷ 0x38E06800 ∷ 0x78E06800 ∷ []) (rt ∷ rn ∷ s ∷ rm ∷ [])
+    (λ base at. insts.LoadSignedRegister base (at rt) (at rn) (at s) (at rm))
 
 -- STP x pre-index, LDP x post-index
 abbrev pub pair : Row
@@ -218,7 +234,8 @@ branch_conditional =
 -- CBZ w, CBZ x, CBNZ w, CBNZ x
 abbrev pub compare_and_branch : Row
 compare_and_branch =
-    row (0x34000000 ∷ 0xB4000000 ∷ 0x35000000 ∷ 0xB5000000 ∷ []) (rt ∷ imm19 ∷ []) (λ base at. insts.CompareAndBranch base (at rt) (at imm19))
+    row (0x34000000 ∷ 0xB4000000 ∷ 0x35000000 ∷ 0xB5000000 ∷ []) (rt ∷ imm19 ∷ [])
+    (λ base at. insts.CompareAndBranch base (at rt) (at imm19))
 
 -- BR, BLR, RET
 abbrev pub branch_register : Row
@@ -228,11 +245,16 @@ branch_register =
 -- CSEL w, CSEL x, CSINC w, CSINC x
 abbrev pub conditional_select : Row
 conditional_select =
-    row (0x1A800000 ∷ 0x9A800000 ∷ 0x1A800400 ∷ 0x9A800400 ∷ []) (rd ∷ rn ∷ select_cond ∷ rm ∷ []) (λ base at. insts.ConditionalSelect base (at rd) (at rn) (at select_cond) (at rm))
+    row (0x1A800000 ∷ 0x9A800000 ∷ 0x1A800400 ∷ 0x9A800400 ∷ []) (rd ∷ rn ∷ select_cond ∷ rm ∷ [])
+    (λ base at. insts.ConditionalSelect base (at rd) (at rn) (at select_cond) (at rm))
 
 abbrev pub table : List Row
 table =
-    add_immediate ∷ sub_immediate ∷ add_register ∷ sub_register ∷ logical_register ∷ or_not_register ∷ multiply_add ∷ multiply_long ∷ multiply_high ∷ divide ∷ shift_variable ∷ bitfield ∷ move_wide ∷ store_immediate ∷ load_immediate ∷ load_signed_immediate_64 ∷ load_signed_immediate_32 ∷ store_register ∷ load_register ∷ load_signed_register ∷ pair ∷ pc_relative ∷ branch ∷ branch_conditional ∷ compare_and_branch ∷ branch_register ∷ conditional_select ∷ []
+    add_immediate ∷ sub_immediate ∷ add_register ∷ sub_register ∷ logical_register ∷ or_not_register ∷ multiply_add
+    ∷ multiply_long ∷ multiply_high ∷ divide ∷ shift_variable ∷ bitfield ∷ move_wide ∷ store_immediate
+    ∷ load_immediate ∷ load_signed_immediate_64 ∷ load_signed_immediate_32 ∷ store_register ∷ load_register
+    ∷ load_signed_register ∷ pair ∷ pc_relative ∷ branch ∷ branch_conditional ∷ compare_and_branch ∷ branch_register
+    ∷ conditional_select ∷ []
 
 -- ---- instructions by rows
 

@@ -1,5 +1,7 @@
 -- The word of an instruction, and the instruction of a word, over the table of rows.
-use Rattle.std.specs.Prelude.{◌≡◌, ◌<◌, ◌+◌, ◌-◌, ◌*◌, ◌/◌, ◌%◌, ◌^◌, ◌==◌, ◌&&◌, ◌||◌, ℕ, Bool, true, false, not, cond, nat_lt, IsTrue, List, [], ◌∷◌, length, map, position, slice_index, bit_and, Option, Some, None, option_and_then}
+use Rattle.std.specs.Prelude.{◌≡◌, ◌<◌, ◌+◌, ◌-◌, ◌*◌, ◌/◌, ◌%◌, ◌^◌, ◌==◌, ◌&&◌, ◌||◌, ℕ, Bool, true, false, not, cond}
+use Rattle.std.specs.Prelude.{nat_lt, IsTrue, List, [], ◌∷◌, length, map, position, slice_index, bit_and, Option, Some}
+use Rattle.std.specs.Prelude.{None, option_and_then}
 use Rattle.std.specs.Option.{option_or}
 use Rattle.a64_code.specs.declared.inst.Inst.{Inst}
 use Rattle.a64_code.specs.declared.inst.Inst.TheVariants as insts
@@ -93,7 +95,8 @@ allowed inst = cond (is_allowed inst) (Some inst) None
 -- the instruction of a word by one row: the fixed bits are one of its bases
 abbrev pub by_row : Row → ℕ → Option Inst
 by_row row word =
-    option_and_then (λ base. allowed (row.inst base (λ field. bits field word))) (position (λ base. base == bit_and word (mask row.fields)) row.bases)
+    option_and_then (λ base. allowed (row.inst base (λ field. bits field word)))
+    (position (λ base. base == bit_and word (mask row.fields)) row.bases)
 
 -- by the first of the rows that has one
 abbrev pub by_rows : List Row → ℕ → Option Inst
@@ -107,4 +110,5 @@ instruction word = by_rows table word
 -- The word is none of the row's: it has none of the bases in the fixed bits, or the row's own condition fails.
 abbrev pub HasNot : ℕ → Row → Type 0
 HasNot word row =
-    (base : ℕ) → base < length row.bases → bit_and word (mask row.fields) ≡ slice_index row.bases base → is_allowed (row.inst base (λ field. bits field word)) ≡ false
+    (base : ℕ) → base < length row.bases → bit_and word (mask row.fields) ≡ slice_index row.bases base
+    → is_allowed (row.inst base (λ field. bits field word)) ≡ false

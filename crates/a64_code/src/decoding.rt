@@ -13,7 +13,9 @@ use crate::inst::Inst;
 use crate::laws::words_read_back;
 use crate::rows;
 
-/// The instruction of a word, and `None` exactly where the word is outside the table.
+/// The instruction of a word (Arm Architecture Reference Manual, C4.1). `None` exactly where the word is outside the
+/// table: where it is that of no instruction in range. What it answers is in range, and [`encode`](crate::encode) gives
+/// the word.
 pub fn decode(word: u32) -> Option<Inst>
     ensures value { result ≡ instruction word }
     // Its fields are in range, and the word is its own.

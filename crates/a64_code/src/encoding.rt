@@ -12,7 +12,8 @@ use crate::inst::Inst;
 use crate::laws::words_read_back;
 use crate::rows;
 
-/// The word of an instruction. Its fields must be in range, which [`Inst::is_in_range`] tests.
+/// The word of an instruction (Arm Architecture Reference Manual, C6.2). Its fields must be in range, which
+/// [`Inst::is_in_range`] tests. [`decode`](crate::decode) gives the instruction of the word.
 pub fn encode(inst: Inst) -> u32
     requires { InRange inst }
     ensures value { result ≡ word_of inst }

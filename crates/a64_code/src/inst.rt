@@ -4,8 +4,8 @@ ghost use Rattle.std.specs.Prelude.{◌≡◌};
 ghost use Rattle.a64_code.specs.Words.{is_allowed, pair_allowed, width as width_of};
 
 /// An instruction. `base` is the place, from 0, of its base among those of its row, in the order in which each variant
-/// lists them; `w` is an operation of 32 bits and `x` one of 64. The other fields have the names of the Arm Architecture
-/// Reference Manual (C6.2) and are as they stand in the word, lowest first.
+/// lists them; `w` is an operation of 32 bits and `x` one of 64. The other fields have the names of the Arm
+/// Architecture Reference Manual (C6.2) and are as they are in the word, lowest first.
 #[derive(Clone, Copy, Debug)]
 pub enum Inst {
     /// Add (immediate): ADD w, ADD x, ADDS w, ADDS x.

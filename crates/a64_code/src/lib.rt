@@ -1,7 +1,7 @@
-//! The words of A64 that are compiled and run, both ways.
+//! The words of A64 that are compiled and run, both ways (Arm Architecture Reference Manual, C4.1 and C6.2).
 //!
-//! An [`Inst`] is an instruction as its row in a table and the fields of its word. [`decode`] gives the instruction of a
-//! word, and [`encode`] the word of an instruction.
+//! An [`Inst`] is an instruction as its row in a table and the fields of its word. [`decode`] gives the instruction of
+//! a word, and [`encode`] the word of an instruction.
 #![tactic(auto)]
 
 mod decoding;

@@ -1,5 +1,7 @@
 -- The bytes of instructions are the code that they were read from.
-use Rattle.std.proofs.Common.{◌≡◌, ℕ, zero, suc, ◌+◌, ◌%◌, ◌^◌, ◌<◌, ◌≤◌, Bool, true, false, cond, List, [], ◌∷◌, ◌++◌, length, drop, get_or, Option, Some, None, Ok, refl, sym, ap, ◌∙◌, subst, arith, append_assoc, append-nil}
+use Rattle.std.proofs.Common.{◌≡◌, ℕ, zero, suc, ◌+◌, ◌%◌, ◌^◌, ◌<◌, ◌≤◌, Bool, true, false, cond, List, [], ◌∷◌, ◌++◌}
+use Rattle.std.proofs.Common.{length, drop, get_or, Option, Some, None, Ok, refl, sym, ap, ◌∙◌, subst, arith}
+use Rattle.std.proofs.Common.{append_assoc, append-nil}
 use Rattle.std.specs.Prelude.{nat_lt, ◌==◌}
 use Rattle.std.proofs.lemmas.Bool.Decides.{nat_tests}
 use Rattle.std.proofs.lemmas.List.{drop-drop, drop_all}
@@ -9,7 +11,8 @@ use Rattle.cil_decode.specs.declared.instr.Instr.{Instr}
 use Rattle.cil_decode.specs.Opcodes.{operand_of}
 use Rattle.cil_decode.specs.Bodies.{AreBytes, Follow, IsBody, IsCode, IsDecoded}
 use Rattle.cil_decode.specs.Encoding.{arg_bytes, code_bytes, form_bytes, instr_bytes}
-use Rattle.cil_decode.specs.Instructions.{fixed_size, form_in, form_size, instr, instr_at, instr_size, operand_at, operand_size, second_in, with_arg, with_form, with_operand}
+use Rattle.cil_decode.specs.Instructions.{fixed_size, form_in, form_size, instr, instr_at, instr_size, operand_at}
+use Rattle.cil_decode.specs.Instructions.{operand_size, second_in, with_arg, with_form, with_operand}
 use Rattle.cil_decode.proofs.Sizes.{is_read, size_of}
 use Rattle.cil_decode.proofs.Followed.{follow_up}
 use Rattle.cil_decode.proofs.Fields.{IsSpelled, bytes_from, operand_spelled}
@@ -29,7 +32,8 @@ second_form (b ∷ bytes) form h e =
     let low : form % 0x100 ≡ b = omega arith in
     record { spelled = rw (two, low) refl; within = rw two (omega arith) }
 
-first_form : (b form : ℕ) (bytes : List ℕ) (t : Bool) → AreBytes (b ∷ bytes) → (b == 0xFE) ≡ t → cond t (second_in bytes) (Some b) ≡ Some form → IsForm (b ∷ bytes) form
+first_form : (b form : ℕ) (bytes : List ℕ) (t : Bool) → AreBytes (b ∷ bytes) → (b == 0xFE) ≡ t
+    → cond t (second_in bytes) (Some b) ≡ Some form → IsForm (b ∷ bytes) form
 first_form b form bytes true h test e =
     let same : b ≡ 0xFE = grind (arith, nat_tests) in
     subst (λ n. IsForm (n ∷ bytes) form) (sym same) (second_form bytes form (λ i. h (suc i)) e)
@@ -55,7 +59,8 @@ record Parts (code : List ℕ) (at : ℕ) (i : Instr) : Type 0 where
   operand_is : operand_of form ≡ Some operand
   arg_is : operand_at code (at + form_size form) operand ≡ Some arg
 
-with_arg-parts : (code : List ℕ) (at form : ℕ) (operand : Operand) (arg : Option Arg) (i : Instr) → form_in (drop at code) ≡ Some form → operand_of form ≡ Some operand
+with_arg-parts : (code : List ℕ) (at form : ℕ) (operand : Operand) (arg : Option Arg) (i : Instr)
+    → form_in (drop at code) ≡ Some form → operand_of form ≡ Some operand
     → operand_at code (at + form_size form) operand ≡ arg → with_arg at form arg ≡ Ok i → Parts code at i
 with_arg-parts code at form operand None i f o a e = absurd (let x : ⊥ = cc in x)
 with_arg-parts code at form operand (Some arg) i f o a e = record {
@@ -68,11 +73,14 @@ with_arg-parts code at form operand (Some arg) i f o a e = record {
   arg_is = a;
 }
 
-with_operand-parts : (code : List ℕ) (at form : ℕ) (operand : Option Operand) (i : Instr) → form_in (drop at code) ≡ Some form → operand_of form ≡ operand → with_operand code at form operand ≡ Ok i → Parts code at i
+with_operand-parts : (code : List ℕ) (at form : ℕ) (operand : Option Operand) (i : Instr)
+    → form_in (drop at code) ≡ Some form → operand_of form ≡ operand → with_operand code at form operand ≡ Ok i → Parts code at i
 with_operand-parts code at form None i f o e = absurd (let x : ⊥ = cc in x)
-with_operand-parts code at form (Some operand) i f o e = with_arg-parts code at form operand (operand_at code (at + form_size form) operand) i f o refl e
+with_operand-parts code at form (Some operand) i f o e =
+    with_arg-parts code at form operand (operand_at code (at + form_size form) operand) i f o refl e
 
-with_form-parts : (code : List ℕ) (at : ℕ) (form : Option ℕ) (i : Instr) → form_in (drop at code) ≡ form → with_form code at form ≡ Ok i → Parts code at i
+with_form-parts : (code : List ℕ) (at : ℕ) (form : Option ℕ) (i : Instr) → form_in (drop at code) ≡ form
+    → with_form code at form ≡ Ok i → Parts code at i
 with_form-parts code at None i f e = absurd (let x : ⊥ = cc in x)
 with_form-parts code at (Some form) i f e = with_operand-parts code at form (operand_of form) i f refl e
 
@@ -81,19 +89,22 @@ unfolding instr_at
 parts code at i e = with_form-parts code at (form_in (drop at code)) i refl e
 
 bytes_of : (at form : ℕ) (arg : Arg) (operand : Operand) → operand_of form ≡ Some operand
-    → instr_bytes (instr at form arg) ≡ form_bytes form ++ arg_bytes (fixed_size operand) (at + form_size form + operand_size operand arg) arg
+    → instr_bytes (instr at form arg)
+    ≡ form_bytes form ++ arg_bytes (fixed_size operand) (at + form_size form + operand_size operand arg) arg
 unfolding instr_bytes
 bytes_of at form arg operand e =
     let size = size_of at form arg operand e in
     rw e (ap (λ n. form_bytes form ++ arg_bytes (fixed_size operand) n arg) (omega (arith, size)))
 
-spelled : (code : List ℕ) (at : ℕ) (i : Instr) → AreBytes code → length code ≤ 2 ^ 31 → at ≤ length code → instr_at code at ≡ Ok i → drop at code ≡ instr_bytes i ++ drop (at + instr_size i) code
+spelled : (code : List ℕ) (at : ℕ) (i : Instr) → AreBytes code → length code ≤ 2 ^ 31 → at ≤ length code
+    → instr_at code at ≡ Ok i → drop at code ≡ instr_bytes i ++ drop (at + instr_size i) code
 spelled code at i h small within e =
     let p = parts code at i e in
     let form = form_is (drop at code) p.form (bytes_from code at h) p.form_is in
     let size = size_of at p.form p.arg p.operand p.operand_is in
     let end = at + form_size p.form + operand_size p.operand p.arg in
-    let operand : IsSpelled code (at + form_size p.form) p.operand p.arg = operand_spelled code (at + form_size p.form) p.operand p.arg h small p.arg_is in
+    let operand : IsSpelled code (at + form_size p.form) p.operand p.arg =
+    operand_spelled code (at + form_size p.form) p.operand p.arg h small p.arg_is in
     let bytes = arg_bytes (fixed_size p.operand) end p.arg in
     let P : Instr → Type 0 = λ j. drop at code ≡ instr_bytes j ++ drop (at + instr_size j) code in
     let last : drop end code ≡ drop (at + instr_size (instr at p.form p.arg)) code = ap (λ n. drop n code) (omega (arith, size)) in
@@ -107,7 +118,8 @@ spelled code at i h small within e =
 
 -- ---- the code
 
-follow_spelled : (code : List ℕ) (at n : ℕ) (is : List Instr) → AreBytes code → length code ≤ 2 ^ 31 → n ≤ length code → Follow code at is n → drop at code ≡ code_bytes is ++ drop n code
+follow_spelled : (code : List ℕ) (at n : ℕ) (is : List Instr) → AreBytes code → length code ≤ 2 ^ 31 → n ≤ length code
+    → Follow code at is n → drop at code ≡ code_bytes is ++ drop n code
 follow_spelled code at n [] h small within e = ap (λ m. drop m code) e
 follow_spelled code at n (i ∷ is) h small within (read, rest) =
     let later = follow_up code (at + instr_size i) n is rest in
@@ -128,7 +140,8 @@ same_end c d at m n (i ∷ is) (r, f) (s, g) = same_end c d (at + instr_size i) 
 
 -- ---- what is written
 
-ends_within : (code : List ℕ) (at n : ℕ) (is : List Instr) → Follow code at is n → (k : ℕ) (d : Instr) → k < length is → (get_or is k d).at + instr_size (get_or is k d) ≤ n
+ends_within : (code : List ℕ) (at n : ℕ) (is : List Instr) → Follow code at is n → (k : ℕ) (d : Instr) → k < length is
+    → (get_or is k d).at + instr_size (get_or is k d) ≤ n
 ends_within code at n [] f k d h = absurd (let x : ⊥ = omega arith in x)
 ends_within code at n (i ∷ is) (read, rest) zero d h =
     let first = is_read code at i read in
@@ -136,7 +149,8 @@ ends_within code at n (i ∷ is) (read, rest) zero d h =
     omega (arith, first.at_is, later)
 ends_within code at n (i ∷ is) (read, rest) (suc k) d h = ends_within code (at + instr_size i) n is rest k d (omega arith)
 
-pub ends_small : (list : List Instr) → IsDecoded list → (k : ℕ) (d : Instr) → k < length list → (get_or list k d).at + instr_size (get_or list k d) ≤ 2 ^ 31
+pub ends_small : (list : List Instr) → IsDecoded list → (k : ℕ) (d : Instr) → k < length list
+    → (get_or list k d).at + instr_size (get_or list k d) ≤ 2 ^ 31
 ends_small list c k d h =
     let within = ends_within c.code 0 (length c.code) list c.body.code_is.follow k d h in
     let small = c.small in
@@ -145,7 +159,8 @@ ends_small list c k d h =
 pub encoded : (list : List Instr) (out : List ℕ) → IsDecoded list → out ≡ code_bytes list → IsBody out list
 encoded list out c e = subst (λ code. IsBody code list) (code_is_bytes c.code list c.bytes c.small c.body.code_is ∙ sym e) c.body
 
-pub only_encoded : (list : List Instr) (out : List ℕ) → IsDecoded list → out ≡ code_bytes list → (other : List ℕ) → AreBytes other → IsBody other list → out ≡ other
+pub only_encoded : (list : List Instr) (out : List ℕ) → IsDecoded list → out ≡ code_bytes list → (other : List ℕ)
+    → AreBytes other → IsBody other list → out ≡ other
 only_encoded list out c e other h body =
     let same = same_end c.code other 0 (length c.code) (length other) list c.body.code_is.follow body.code_is.follow in
     let small = c.small in

@@ -1,5 +1,6 @@
 -- An operand is spelled by the bytes that it was read from.
-use Rattle.std.proofs.Common.{◌≡◌, ℕ, zero, suc, ◌+◌, ◌*◌, ◌%◌, ◌^◌, ◌-◌, ◌<◌, ◌≤◌, Bool, true, false, cond, List, ◌++◌, length, map, take, drop, Option, Some, None, refl, sym, ap, ◌∙◌, subst, arith, ℤ, pos}
+use Rattle.std.proofs.Common.{◌≡◌, ℕ, zero, suc, ◌+◌, ◌*◌, ◌%◌, ◌^◌, ◌-◌, ◌<◌, ◌≤◌, Bool, true, false, cond, List, ◌++◌}
+use Rattle.std.proofs.Common.{length, map, take, drop, Option, Some, None, refl, sym, ap, ◌∙◌, subst, arith, ℤ, pos}
 use Rattle.std.specs.Prelude.{nat_le, nat_lt, unwrap_or, ◌-ℤ◌}
 use Rattle.std.proofs.Math.Nat.{mod-eq_of_lt}
 use Rattle.std.specs.Option.{option_map, option_and_then}
@@ -32,7 +33,8 @@ record IsField (n : ℕ) (code : List ℕ) (at v : ℕ) : Type 0 where
   bytes : drop at code ≡ little_bytes n v ++ drop (at + n) code
   below : v < 256 ^ n
 
-field_here : (n : ℕ) (code : List ℕ) (at v : ℕ) → AreBytes code → at + n ≤ length code → little_number n (drop at code) ≡ v → IsField n code at v
+field_here : (n : ℕ) (code : List ℕ) (at v : ℕ) → AreBytes code → at + n ≤ length code
+    → little_number n (drop at code) ≡ v → IsField n code at v
 field_here n code at v h within is =
     let rest = drop at code in
     let few : n ≤ length rest = omega (arith, length-drop at code) in
@@ -43,7 +45,8 @@ field_here n code at v h within is =
       below = subst (λ m. m < 256 ^ n) is (little_from-lt 0 n rest (bytes_from code at h));
     }
 
-field_if : (n : ℕ) (code : List ℕ) (at v : ℕ) (t : Bool) → AreBytes code → nat_le (at + n) (length code) ≡ t → cond t (Some (little_number n (drop at code))) None ≡ Some v → IsField n code at v
+field_if : (n : ℕ) (code : List ℕ) (at v : ℕ) (t : Bool) → AreBytes code → nat_le (at + n) (length code) ≡ t
+    → cond t (Some (little_number n (drop at code))) None ≡ Some v → IsField n code at v
 field_if n code at v true h test e = field_here n code at v h (grind (arith, nat_tests)) (cc)
 field_if n code at v false h test e = absurd (let x : ⊥ = cc in x)
 
@@ -56,11 +59,13 @@ record IsMade (n : ℕ) (code : List ℕ) (at : ℕ) (f : ℕ → Arg) (arg : Ar
   made : f v ≡ arg
   field : IsField n code at v
 
-made_of : (n : ℕ) (code : List ℕ) (at : ℕ) (f : ℕ → Arg) (arg : Arg) (o : Option ℕ) → AreBytes code → field_at n code at ≡ o → option_map f o ≡ Some arg → IsMade n code at f arg
+made_of : (n : ℕ) (code : List ℕ) (at : ℕ) (f : ℕ → Arg) (arg : Arg) (o : Option ℕ) → AreBytes code
+    → field_at n code at ≡ o → option_map f o ≡ Some arg → IsMade n code at f arg
 made_of n code at f arg None h is e = absurd (let x : ⊥ = cc in x)
 made_of n code at f arg (Some v) h is e = record { v = v; made = cc; field = field_is n code at v h is }
 
-made : (n : ℕ) (code : List ℕ) (at : ℕ) (f : ℕ → Arg) (arg : Arg) → AreBytes code → option_map f (field_at n code at) ≡ Some arg → IsMade n code at f arg
+made : (n : ℕ) (code : List ℕ) (at : ℕ) (f : ℕ → Arg) (arg : Arg) → AreBytes code
+    → option_map f (field_at n code at) ≡ Some arg → IsMade n code at f arg
 made n code at f arg h e = made_of n code at f arg (field_at n code at) h refl e
 
 mapped_twice : (f : ℕ → ℤ) (g : ℤ → Arg) (o : Option ℕ) → option_map g (option_map f o) ≡ option_map (λ n. g (f n)) o
@@ -81,7 +86,8 @@ alike n code at v w f e = f.bytes ∙ ap (λ xs. xs ++ drop (at + n) code) (sym 
 -- the low bytes of a number that is read
 plain : (n v : ℕ) → v < 2 ^ 32 → v < 256 ^ n → cast_unsigned w64 (pos v) % 256 ^ n ≡ v
 plain n v small below =
-    let same : cast_unsigned w64 (pos v) ≡ v = ap (cast_unsigned w64) (sym (to_z_pos w64 v (omega arith))) ∙ of_z-to_z w64 v (omega arith) in
+    let same : cast_unsigned w64 (pos v) ≡ v = ap (cast_unsigned w64) (sym (to_z_pos w64 v (omega arith)))
+    ∙ of_z-to_z w64 v (omega arith) in
     ap (λ m. m % 256 ^ n) same ∙ mod-eq_of_lt below
 
 low1 : (v : ℕ) (t : Bool) → nat_lt v 128 ≡ t → v < 256 → cast_unsigned w64 (cond t (pos v) (pos v -ℤ pos 256)) % 256 ≡ v
@@ -135,9 +141,13 @@ far_back next v false h below = ap (λ m. m % 2 ^ 32) (back next (v + 0) h (omeg
 far_distance : (next v : ℕ) → next ≤ 2 ^ 32 → v < 256 ^ 4 → distance next (target 4 next v) % 256 ^ 4 ≡ v
 far_distance next v h below = far_back next v (nat_lt v (2 ^ 31)) h below
 
-signed_spelled : (n : ℕ) (code : List ℕ) (at : ℕ) (arg : Arg) → AreBytes code → ((v : ℕ) → v < 256 ^ n → cast_unsigned w64 (twos_complement n v) % 256 ^ n ≡ v) → option_map args.Num (signed_at code at n) ≡ Some arg → drop at code ≡ arg_bytes n (at + n) arg ++ drop (at + n) code
+signed_spelled : (n : ℕ) (code : List ℕ) (at : ℕ) (arg : Arg) → AreBytes code
+    → ((v : ℕ) → v < 256 ^ n → cast_unsigned w64 (twos_complement n v) % 256 ^ n ≡ v)
+    → option_map args.Num (signed_at code at n) ≡ Some arg → drop at code ≡ arg_bytes n (at + n) arg ++ drop (at + n) code
 signed_spelled n code at arg h low e =
-    let m = made n code at (λ v. args.Num (twos_complement n v)) arg h (sym (mapped_twice (twos_complement n) args.Num (field_at n code at)) ∙ e) in
+    let m =
+    made n code at (λ v. args.Num (twos_complement n v)) arg h
+    (sym (mapped_twice (twos_complement n) args.Num (field_at n code at)) ∙ e) in
     let P : Arg → Type 0 = λ a. drop at code ≡ arg_bytes n (at + n) a ++ drop (at + n) code in
     subst P m.made (alike n code at m.v (cast_unsigned w64 (twos_complement n m.v)) m.field (low m.v m.field.below))
 
@@ -150,8 +160,10 @@ word_if false x e = absurd (let y : ⊥ = cc in y)
 u32_is : (code : List ℕ) (p : ℕ) → p + 4 ≤ length code → u32_of code p ≡ little_number 4 (drop p code)
 u32_is code p within = word_if (nat_le (p + 4) (length code)) (little_number 4 (drop p code)) (grind (arith, nat_tests))
 
-switch_spelled : (code : List ℕ) (at count s k : ℕ) → AreBytes code → length code ≤ 2 ^ 31 → at + 4 + 4 * count ≤ length code → s + k ≤ count
-    → drop (at + 4 + 4 * s) code ≡ distances (at + 4 + 4 * count) (map (switch_target code at count) (range_with_len s k)) ++ drop (at + 4 + 4 * (s + k)) code
+switch_spelled : (code : List ℕ) (at count s k : ℕ) → AreBytes code → length code ≤ 2 ^ 31
+    → at + 4 + 4 * count ≤ length code → s + k ≤ count
+    → drop (at + 4 + 4 * s) code
+    ≡ distances (at + 4 + 4 * count) (map (switch_target code at count) (range_with_len s k)) ++ drop (at + 4 + 4 * (s + k)) code
 switch_spelled code at count s zero h small within most = ap (λ n. drop (at + 4 + 4 * n) code) (omega arith)
 switch_spelled code at count s (suc k) h small within most =
     let next = at + 4 + 4 * count in
@@ -160,14 +172,16 @@ switch_spelled code at count s (suc k) h small within most =
     let f = switch_target code at count in
     let word = little_bytes 4 (distance next (f s)) in
     let field : IsField 4 code p v = field_here 4 code p v h (omega arith) (sym (u32_is code p (omega arith))) in
-    let first : drop p code ≡ word ++ drop (p + 4) code = alike 4 code p v (distance next (f s)) field (far_distance next v (omega arith) field.below) in
+    let first : drop p code ≡ word ++ drop (p + 4) code =
+    alike 4 code p v (distance next (f s)) field (far_distance next v (omega arith) field.below) in
     let moved : drop (p + 4) code ≡ drop (at + 4 + 4 * (s + 1)) code = ap (λ n. drop n code) (omega arith) in
     let rest = switch_spelled code at count (s + 1) k h small within (omega arith) in
     let ends : drop (at + 4 + 4 * (s + 1 + k)) code ≡ drop (at + 4 + 4 * (s + suc k)) code = ap (λ n. drop n code) (omega arith) in
     first ∙ ap (λ xs. word ++ xs) (moved ∙ rest ∙ ap (λ xs. distances next (map f (range_with_len (s + 1) k)) ++ xs) ends)
 
 targets_spelled : (code : List ℕ) (at count : ℕ) → AreBytes code → length code ≤ 2 ^ 31 → at + 4 + 4 * count ≤ length code
-    → drop (at + 4) code ≡ distances (at + (4 + 4 * count)) (map (switch_target code at count) (range_with_len 0 count)) ++ drop (at + (4 + 4 * count)) code
+    → drop (at + 4) code ≡ distances (at + (4 + 4 * count)) (map (switch_target code at count) (range_with_len 0 count))
+    ++ drop (at + (4 + 4 * count)) code
 targets_spelled code at count h small within =
     let list = map (switch_target code at count) (range_with_len 0 count) in
     let begins : drop (at + 4) code ≡ drop (at + 4 + 4 * 0) code = ap (λ n. drop n code) (omega arith) in
@@ -178,8 +192,10 @@ targets_spelled code at count h small within =
     let far : at + 4 + 4 * count ≡ at + (4 + 4 * count) = omega arith in
     subst Q far (subst P end all)
 
-switch_if : (code : List ℕ) (at count : ℕ) (arg : Arg) (t : Bool) → AreBytes code → length code ≤ 2 ^ 31 → IsField 4 code at count → nat_le (at + 4 + 4 * count) (length code) ≡ t
-    → cond t (Some (args.Targets (map (switch_target code at count) (range_with_len 0 count)))) None ≡ Some arg → IsSpelled code at operands.Targets arg
+switch_if : (code : List ℕ) (at count : ℕ) (arg : Arg) (t : Bool) → AreBytes code → length code ≤ 2 ^ 31
+    → IsField 4 code at count → nat_le (at + 4 + 4 * count) (length code) ≡ t
+    → cond t (Some (args.Targets (map (switch_target code at count) (range_with_len 0 count)))) None ≡ Some arg
+    → IsSpelled code at operands.Targets arg
 switch_if code at count arg false h small field test e = absurd (let x : ⊥ = cc in x)
 switch_if code at count arg true h small field test e =
     let list = map (switch_target code at count) (range_with_len 0 count) in
@@ -191,13 +207,16 @@ switch_if code at count arg true h small field test e =
     let whole : P count = field.bytes ∙ ap (λ xs. little_bytes 4 count ++ xs) rest in
     subst (IsSpelled code at operands.Targets) same (subst P (sym many) whole)
 
-switch_of : (code : List ℕ) (at : ℕ) (arg : Arg) (o : Option ℕ) → AreBytes code → length code ≤ 2 ^ 31 → field_at 4 code at ≡ o → option_and_then (switch_at code at) o ≡ Some arg → IsSpelled code at operands.Targets arg
+switch_of : (code : List ℕ) (at : ℕ) (arg : Arg) (o : Option ℕ) → AreBytes code → length code ≤ 2 ^ 31
+    → field_at 4 code at ≡ o → option_and_then (switch_at code at) o ≡ Some arg → IsSpelled code at operands.Targets arg
 switch_of code at arg None h small is e = absurd (let x : ⊥ = cc in x)
-switch_of code at arg (Some count) h small is e = switch_if code at count arg (nat_le (at + 4 + 4 * count) (length code)) h small (field_is 4 code at count h is) refl e
+switch_of code at arg (Some count) h small is e =
+    switch_if code at count arg (nat_le (at + 4 + 4 * count) (length code)) h small (field_is 4 code at count h is) refl e
 
 -- ---- every operand
 
-pub operand_spelled : (code : List ℕ) (at : ℕ) (operand : Operand) (arg : Arg) → AreBytes code → length code ≤ 2 ^ 31 → operand_at code at operand ≡ Some arg → IsSpelled code at operand arg
+pub operand_spelled : (code : List ℕ) (at : ℕ) (operand : Operand) (arg : Arg) → AreBytes code → length code ≤ 2 ^ 31
+    → operand_at code at operand ≡ Some arg → IsSpelled code at operand arg
 unfolding operand_at
 operand_spelled code at operands.Nothing arg h small e =
     let same : args.Nothing ≡ arg = cc in
@@ -205,10 +224,12 @@ operand_spelled code at operands.Nothing arg h small e =
     subst (IsSpelled code at operands.Nothing) same here
 operand_spelled code at operands.UInt8 arg h small e =
     let m = made 1 code at (λ n. args.Num (pos n)) arg h e in
-    subst (IsSpelled code at operands.UInt8) m.made (alike 1 code at m.v (cast_unsigned w64 (pos m.v)) m.field (plain 1 m.v (omega (arith, m.field.below)) m.field.below))
+    subst (IsSpelled code at operands.UInt8) m.made
+    (alike 1 code at m.v (cast_unsigned w64 (pos m.v)) m.field (plain 1 m.v (omega (arith, m.field.below)) m.field.below))
 operand_spelled code at operands.UInt16 arg h small e =
     let m = made 2 code at (λ n. args.Num (pos n)) arg h e in
-    subst (IsSpelled code at operands.UInt16) m.made (alike 2 code at m.v (cast_unsigned w64 (pos m.v)) m.field (plain 2 m.v (omega (arith, m.field.below)) m.field.below))
+    subst (IsSpelled code at operands.UInt16) m.made
+    (alike 2 code at m.v (cast_unsigned w64 (pos m.v)) m.field (plain 2 m.v (omega (arith, m.field.below)) m.field.below))
 operand_spelled code at operands.Int8 arg h small e = signed_spelled 1 code at arg h signed1 e
 operand_spelled code at operands.Int32 arg h small e = signed_spelled 4 code at arg h signed4 e
 operand_spelled code at operands.Int64 arg h small e = signed_spelled 8 code at arg h signed8 e
@@ -217,8 +238,12 @@ operand_spelled code at operands.Token arg h small e =
     subst (IsSpelled code at operands.Token) m.made m.field.bytes
 operand_spelled code at operands.ShortTarget arg h small e =
     let m = made 1 code at (λ d. args.Target (target 1 (at + 1) d)) arg h e in
-    subst (IsSpelled code at operands.ShortTarget) m.made (alike 1 code at m.v (distance (at + 1) (target 1 (at + 1) m.v)) m.field (short_distance (at + 1) m.v (omega (arith, m.field.within)) m.field.below))
+    subst (IsSpelled code at operands.ShortTarget) m.made
+    (alike 1 code at m.v (distance (at + 1) (target 1 (at + 1) m.v)) m.field
+    (short_distance (at + 1) m.v (omega (arith, m.field.within)) m.field.below))
 operand_spelled code at operands.Target arg h small e =
     let m = made 4 code at (λ d. args.Target (target 4 (at + 4) d)) arg h e in
-    subst (IsSpelled code at operands.Target) m.made (alike 4 code at m.v (distance (at + 4) (target 4 (at + 4) m.v)) m.field (far_distance (at + 4) m.v (omega (arith, m.field.within)) m.field.below))
+    subst (IsSpelled code at operands.Target) m.made
+    (alike 4 code at m.v (distance (at + 4) (target 4 (at + 4) m.v)) m.field
+    (far_distance (at + 4) m.v (omega (arith, m.field.within)) m.field.below))
 operand_spelled code at operands.Targets arg h small e = switch_of code at arg (field_at 4 code at) h small refl e

@@ -1,5 +1,6 @@
 -- Instructions one after the other: one more, and that there is one way.
-use Rattle.std.proofs.Common.{◌≡◌, ℕ, zero, suc, ◌+◌, ◌^◌, ◌<◌, ◌≤◌, ◌⊎◌, inl, inr, List, [], ◌∷◌, ◌++◌, length, get_or, Some, Result, Ok, Err, refl, sym, ap, ◌∙◌, subst, arith, append-nil}
+use Rattle.std.proofs.Common.{◌≡◌, ℕ, zero, suc, ◌+◌, ◌^◌, ◌<◌, ◌≤◌, ◌⊎◌, inl, inr, List, [], ◌∷◌, ◌++◌, length, get_or}
+use Rattle.std.proofs.Common.{Some, Result, Ok, Err, refl, sym, ap, ◌∙◌, subst, arith, append-nil}
 use Rattle.std.specs.Prelude.{IfOk, IfErr}
 use Rattle.std.proofs.lemmas.List.{drop_all}
 use Rattle.std.specs.Global.{Vec}
@@ -7,10 +8,12 @@ use Rattle.cil_decode.specs.declared.instr.Instr.{Instr}
 use Rattle.cil_decode.specs.declared.body.BodyRefusal.{BodyRefusal}
 use Rattle.cil_decode.specs.declared.body.BodyRefusal.TheVariants as refusals
 use Rattle.cil_decode.specs.Instructions.{IsRefusedAt, form_in, instr_at, instr_size, with_form}
-use Rattle.cil_decode.specs.Bodies.{AreBytes, Breaks, Follow, GivesBody, GivesRefusal, IsBody, IsCode, IsDecoded, IsFreely, IsRefused, IsUnlinked, first_unlinked}
+use Rattle.cil_decode.specs.Bodies.{AreBytes, Breaks, Follow, GivesBody, GivesRefusal, IsBody, IsCode, IsDecoded}
+use Rattle.cil_decode.specs.Bodies.{IsFreely, IsRefused, IsUnlinked, first_unlinked}
 use Rattle.cil_decode.proofs.Sizes.{is_read}
 
-pub follow_more : (code : List ℕ) (at mid : ℕ) (is : List Instr) (i : Instr) → Follow code at is mid → instr_at code mid ≡ Ok i → Follow code at (is ++ i ∷ []) (mid + instr_size i)
+pub follow_more : (code : List ℕ) (at mid : ℕ) (is : List Instr) (i : Instr) → Follow code at is mid
+    → instr_at code mid ≡ Ok i → Follow code at (is ++ i ∷ []) (mid + instr_size i)
 follow_more code at mid [] i e read = (subst (λ n. instr_at code n ≡ Ok i) (sym e) read, ap (λ n. n + instr_size i) e)
 follow_more code at mid (j ∷ is) i (first, rest) read = (first, follow_more code (at + instr_size j) mid is i rest read)
 
@@ -40,7 +43,8 @@ one_more code m n i j is js e g = record {
 }
 
 -- of two lists from one offset on, one goes on where the other ends
-joined : (code : List ℕ) (at m n : ℕ) (is js : List Instr) → Follow code at is m → Follow code at js n → GoesOn code m n is js ⊎ GoesOn code n m js is
+joined : (code : List ℕ) (at m n : ℕ) (is js : List Instr) → Follow code at is m → Follow code at js n
+    → GoesOn code m n is js ⊎ GoesOn code n m js is
 joined code at m n [] js e f = inl (record { more = js; whole = refl; follow = subst (λ k. Follow code k js n) e f })
 joined code at m n (i ∷ is) [] f e = inr (record { more = i ∷ is; whole = refl; follow = subst (λ k. Follow code k (i ∷ is) m) e f })
 joined code at m n (i ∷ is) (j ∷ js) (r, f) (s, g) =
@@ -89,7 +93,8 @@ not_linked code at list u whole = subst (λ is. first_unlinked is ≡ Some at) (
 
 -- ---- one answer
 
-pub one_body : (code : List ℕ) (r : Result (Vec Instr) BodyRefusal) (list : List Instr) → IfOk r (λ v. IsBody code v.items) → IfErr r (IsRefused code) → IsBody code list → GivesBody r list
+pub one_body : (code : List ℕ) (r : Result (Vec Instr) BodyRefusal) (list : List Instr)
+    → IfOk r (λ v. IsBody code v.items) → IfErr r (IsRefused code) → IsBody code list → GivesBody r list
 one_body code (Ok v) list ok err body = one_code code v.items list ok.code_is body.code_is
 one_body code (Err refusals.NoMemory) list ok err body = refl
 one_body code (Err (refusals.Cut at)) list ok err body = absurd (not_broken code (refusals.Cut at) list err body.code_is)
@@ -98,14 +103,16 @@ one_body code (Err (refusals.BadTarget at)) list ok err body =
     let bad = not_linked code at list err body.code_is in let good = body.linked in absurd (let x : ⊥ = cc in x)
 
 -- a code that breaks is refused so
-broken_so : (code : List ℕ) (r : Result (Vec Instr) BodyRefusal) (e : BodyRefusal) → IfOk r (λ v. IsBody code v.items) → IfErr r (IsRefused code) → Breaks code e → GivesRefusal r e
+broken_so : (code : List ℕ) (r : Result (Vec Instr) BodyRefusal) (e : BodyRefusal) → IfOk r (λ v. IsBody code v.items)
+    → IfErr r (IsRefused code) → Breaks code e → GivesRefusal r e
 broken_so code (Ok v) e ok err b = absurd (not_broken code e v.items b ok.code_is)
 broken_so code (Err refusals.NoMemory) e ok err b = tt
 broken_so code (Err (refusals.Cut at)) e ok err b = inr (one_break code (refusals.Cut at) e err b)
 broken_so code (Err (refusals.OutOfProfile at)) e ok err b = inr (one_break code (refusals.OutOfProfile at) e err b)
 broken_so code (Err (refusals.BadTarget at)) e ok err b = absurd (not_broken code e err.list b err.code_is)
 
-unlinked_so : (code : List ℕ) (r : Result (Vec Instr) BodyRefusal) (at : ℕ) → IfOk r (λ v. IsBody code v.items) → IfErr r (IsRefused code) → IsUnlinked code at → GivesRefusal r (refusals.BadTarget at)
+unlinked_so : (code : List ℕ) (r : Result (Vec Instr) BodyRefusal) (at : ℕ) → IfOk r (λ v. IsBody code v.items)
+    → IfErr r (IsRefused code) → IsUnlinked code at → GivesRefusal r (refusals.BadTarget at)
 unlinked_so code (Ok v) at ok err u =
     let bad = not_linked code at v.items u ok.code_is in let good = ok.linked in absurd (let x : ⊥ = cc in x)
 unlinked_so code (Err refusals.NoMemory) at ok err u = tt
@@ -123,7 +130,8 @@ freely (refusals.Cut at) = inl refl
 freely (refusals.OutOfProfile at) = inl refl
 freely (refusals.BadTarget at) = inl refl
 
-pub one_refusal : (code : List ℕ) (r : Result (Vec Instr) BodyRefusal) (e : BodyRefusal) → IfOk r (λ v. IsBody code v.items) → IfErr r (IsRefused code) → IsRefused code e → GivesRefusal r e
+pub one_refusal : (code : List ℕ) (r : Result (Vec Instr) BodyRefusal) (e : BodyRefusal)
+    → IfOk r (λ v. IsBody code v.items) → IfErr r (IsRefused code) → IsRefused code e → GivesRefusal r e
 one_refusal code (Ok v) refusals.NoMemory ok err b = refl
 one_refusal code (Err f) refusals.NoMemory ok err b = freely f
 one_refusal code r (refusals.Cut at) ok err b = broken_so code r (refusals.Cut at) ok err b
@@ -133,10 +141,12 @@ one_refusal code r (refusals.BadTarget at) ok err u = unlinked_so code r at ok e
 -- ---- the reader's steps
 
 -- a refusal of an instruction after those that were read
-pub refused_so : (code : List ℕ) (before : List Instr) (at : ℕ) (e : BodyRefusal) → Follow code 0 before at → at < length code → IsRefusedAt code at e → IsRefused code e
+pub refused_so : (code : List ℕ) (before : List Instr) (at : ℕ) (e : BodyRefusal) → Follow code 0 before at
+    → at < length code → IsRefusedAt code at e → IsRefused code e
 refused_so code before at refusals.NoMemory f below r = tt
 refused_so code before at (refusals.Cut k) f below r = record { before = before; at = at; follow = f; more = inl below; broken = r }
-refused_so code before at (refusals.OutOfProfile k) f below r = record { before = before; at = at; follow = f; more = inl below; broken = r }
+refused_so code before at (refusals.OutOfProfile k) f below r =
+    record { before = before; at = at; follow = f; more = inl below; broken = r }
 refused_so code before at (refusals.BadTarget k) f below r = absurd r
 
 -- a code without bytes
@@ -155,7 +165,8 @@ pub follow_up : (code : List ℕ) (at n : ℕ) (is : List Instr) → Follow code
 follow_up code at n [] e = omega arith
 follow_up code at n (i ∷ is) (read, rest) = let later = follow_up code (at + instr_size i) n is rest in omega arith
 
-pub begins_below : (code : List ℕ) (at n : ℕ) (is : List Instr) → Follow code at is n → (k : ℕ) (d : Instr) → k < length is → (get_or is k d).at < n
+pub begins_below : (code : List ℕ) (at n : ℕ) (is : List Instr) → Follow code at is n → (k : ℕ) (d : Instr)
+    → k < length is → (get_or is k d).at < n
 begins_below code at n [] f k d h = absurd (let x : ⊥ = omega arith in x)
 begins_below code at n (i ∷ is) (read, rest) zero d h =
     let first = is_read code at i read in
@@ -165,6 +176,7 @@ begins_below code at n (i ∷ is) (read, rest) (suc k) d h = begins_below code (
 
 -- ---- such a list can be encoded
 
-pub decoded_so : (code : List ℕ) (r : Result (Vec Instr) BodyRefusal) → AreBytes code → length code ≤ 2 ^ 31 → IfOk r (λ v. IsBody code v.items) → IfOk r (λ v. IsDecoded v.items)
+pub decoded_so : (code : List ℕ) (r : Result (Vec Instr) BodyRefusal) → AreBytes code → length code ≤ 2 ^ 31
+    → IfOk r (λ v. IsBody code v.items) → IfOk r (λ v. IsDecoded v.items)
 decoded_so code (Ok v) bytes small ok = record { code = code; bytes = bytes; small = small; body = ok }
 decoded_so code (Err e) bytes small ok = tt

@@ -8,7 +8,8 @@ use Rattle.cil_decode.specs.declared.opcode.Opcode.{Opcode}
 use Rattle.cil_decode.specs.Opcodes.{opcode_of, operand_of}
 use Rattle.cil_decode.specs.Operations.{operation_of, with_operand}
 
-both : (arg : Arg) (o : Option Opcode) → is_some (option_map (λ c. with_operand arg c.operation) o) ≡ is_some (option_map (λ c. c.operand) o)
+both : (arg : Arg) (o : Option Opcode)
+    → is_some (option_map (λ c. with_operand arg c.operation) o) ≡ is_some (option_map (λ c. c.operand) o)
 both arg None = refl
 both arg (Some c) = refl
 

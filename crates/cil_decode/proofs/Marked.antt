@@ -1,5 +1,6 @@
 -- The marks of the offsets at which instructions begin.
-use Rattle.std.proofs.Common.{◌≡◌, ℕ, ◌+◌, ◌<◌, ◌==◌, Bool, true, false, List, length, take, get_or, set, refl, sym, ◌∙◌, ap, subst, inl, inr}
+use Rattle.std.proofs.Common.{◌≡◌, ℕ, ◌+◌, ◌<◌, ◌==◌, Bool, true, false, List, length, take, get_or, set, refl, sym}
+use Rattle.std.proofs.Common.{◌∙◌, ap, subst, inl, inr}
 use Rattle.std.specs.Prelude.{◌||◌}
 use Rattle.std.proofs.lemmas.Bool.{cases_eq, eq-eqb, ne_eqb}
 use Rattle.std.proofs.lemmas.List.{get_or-set_same, get_or-set_other}
@@ -15,7 +16,8 @@ or_false : (b : Bool) → (b || false) ≡ b
 or_false true = refl
 or_false false = refl
 
-pub marks_more : (marks : List Bool) (list : List Instr) (i k : ℕ) (d : Instr) → i < length list → (get_or list i d).at ≡ k → k < length marks → Marks marks (take i list) → Marks (set marks k true) (take (i + 1) list)
+pub marks_more : (marks : List Bool) (list : List Instr) (i k : ℕ) (d : Instr) → i < length list
+    → (get_or list i d).at ≡ k → k < length marks → Marks marks (take i list) → Marks (set marks k true) (take (i + 1) list)
 marks_more marks list i k d i_in same k_in so_far = λ at.
     let more = list_any_more (λ (j : Instr). j.at == at) list i d i_in in
     elim (cases_eq k at) [

@@ -1,5 +1,6 @@
 -- An instruction that is read has bytes, and ends in the code.
-use Rattle.std.proofs.Common.{◌≡◌, ℕ, ◌+◌, ◌*◌, ◌<◌, ◌≤◌, Bool, true, false, cond, List, length, drop, Option, Some, None, Ok, refl, subst, arith, IfSome, pos}
+use Rattle.std.proofs.Common.{◌≡◌, ℕ, ◌+◌, ◌*◌, ◌<◌, ◌≤◌, Bool, true, false, cond, List, length, drop, Option, Some}
+use Rattle.std.proofs.Common.{None, Ok, refl, subst, arith, IfSome, pos}
 use Rattle.std.specs.Prelude.{nat_le, nat_lt}
 use Rattle.std.specs.Option.{option_map, option_and_then}
 use Rattle.std.proofs.lemmas.Bool.Decides.{nat_tests}
@@ -12,7 +13,9 @@ use Rattle.cil_decode.specs.declared.instr.Arg.{Arg}
 use Rattle.cil_decode.specs.declared.instr.Arg.TheVariants as args
 use Rattle.cil_decode.specs.declared.instr.Instr.{Instr}
 use Rattle.cil_decode.specs.Opcodes.{operand_of}
-use Rattle.cil_decode.specs.Instructions.{form_in, form_size, instr, instr_at, instr_size, operand_at, operand_size, signed_at, switch_at, switch_target, target, with_arg, with_form, with_operand}
+use Rattle.cil_decode.specs.Instructions.{form_in, form_size, instr, instr_at, instr_size, operand_at, operand_size}
+use Rattle.cil_decode.specs.Instructions.{signed_at, switch_at, switch_target, target, with_arg, with_form}
+use Rattle.cil_decode.specs.Instructions.{with_operand}
 
 -- what holds of both sides of a test
 either_way : {X : Type 0} (P : X → Type 0) (b : Bool) (x y : X) → (b ≡ true → P x) → (b ≡ false → P y) → P (cond b x y)
@@ -39,7 +42,8 @@ switch_ends code at count =
     let n = length-map-range_with_len (switch_target code at count) 0 count in
     either_way P (nat_le (at + 4 + 4 * count) (length code)) _ None (λ t. grind (arith, nat_tests, n)) (λ _. tt)
 
-switch_operand_ends : (code : List ℕ) (at : ℕ) (count : Option ℕ) → Ends code at operands.Targets (option_and_then (switch_at code at) count)
+switch_operand_ends : (code : List ℕ) (at : ℕ) (count : Option ℕ)
+    → Ends code at operands.Targets (option_and_then (switch_at code at) count)
 switch_operand_ends code at None = tt
 switch_operand_ends code at (Some count) = switch_ends code at count
 
@@ -57,11 +61,13 @@ operand_ends code at operands.Target h = number_ends code at 4 (λ distance. arg
 operand_ends code at operands.Targets h = switch_operand_ends code at (field_at 4 code at)
 
 -- the same of an operand that is there
-pub some_ends : (code : List ℕ) (at : ℕ) (operand : Operand) (arg : Arg) → at ≤ length code → operand_at code at operand ≡ Some arg → at + operand_size operand arg ≤ length code
+pub some_ends : (code : List ℕ) (at : ℕ) (operand : Operand) (arg : Arg) → at ≤ length code
+    → operand_at code at operand ≡ Some arg → at + operand_size operand arg ≤ length code
 some_ends code at operand arg h e = subst (Ends code at operand) e (operand_ends code at operand h)
 
 -- the size of an instruction whose opcode is of the profile
-pub size_of : (at form : ℕ) (arg : Arg) (operand : Operand) → operand_of form ≡ Some operand → instr_size (instr at form arg) ≡ form_size form + operand_size operand arg
+pub size_of : (at form : ℕ) (arg : Arg) (operand : Operand) → operand_of form ≡ Some operand
+    → instr_size (instr at form arg) ≡ form_size form + operand_size operand arg
 unfolding instr_size
 size_of at form arg operand e = rw e refl
 
@@ -83,7 +89,8 @@ with_arg-read code at form (Some arg) i e =
     let same : instr at form arg ≡ i = cc in
     subst (IsRead code at) same (record { at_is = refl; some = sized at form arg })
 
-with_operand-read : (code : List ℕ) (at form : ℕ) (operand : Option Operand) (i : Instr) → with_operand code at form operand ≡ Ok i → IsRead code at i
+with_operand-read : (code : List ℕ) (at form : ℕ) (operand : Option Operand) (i : Instr)
+    → with_operand code at form operand ≡ Ok i → IsRead code at i
 with_operand-read code at form None i e = absurd (let x : ⊥ = cc in x)
 with_operand-read code at form (Some operand) i e = with_arg-read code at form (operand_at code (at + form_size form) operand) i e
 

@@ -1,5 +1,6 @@
 -- A method's code as its instructions.
-use Rattle.std.specs.Prelude.{◌≡◌, ◌<◌, ◌≤◌, ◌⊎◌, ℕ, ◌+◌, ◌^◌, ◌==◌, not, Bool, List, [], ◌∷◌, length, find, Option, Some, None, Result, Ok, Err, slice_index, get_or, false}
+use Rattle.std.specs.Prelude.{◌≡◌, ◌<◌, ◌≤◌, ◌⊎◌, ℕ, ◌+◌, ◌^◌, ◌==◌, not, Bool, List, [], ◌∷◌, length, find, Option}
+use Rattle.std.specs.Prelude.{Some, None, Result, Ok, Err, slice_index, get_or, false}
 use Rattle.std.specs.Option.{option_map}
 use Rattle.std.specs.List.{list_all, list_any}
 use Rattle.std.specs.Global.{Vec}

@@ -1,5 +1,6 @@
 -- One instruction at an offset of a code (ECMA-335 III.1.2 and III.1.7): its opcode, and after it the opcode's operand.
-use Rattle.std.specs.Prelude.{◌≡◌, ℕ, ◌+◌, ◌-◌, ◌*◌, ◌%◌, ◌^◌, ◌==◌, ℤ, pos, List, [], ◌∷◌, length, map, drop, Option, Some, None, Result, Ok, Err, nat_le, nat_lt, if◌then◌else◌}
+use Rattle.std.specs.Prelude.{◌≡◌, ℕ, ◌+◌, ◌-◌, ◌*◌, ◌%◌, ◌^◌, ◌==◌, ℤ, pos, List, [], ◌∷◌, length, map, drop, Option}
+use Rattle.std.specs.Prelude.{Some, None, Result, Ok, Err, nat_le, nat_lt, if◌then◌else◌}
 use Rattle.std.specs.Option.{option_map, option_and_then}
 use Rattle.std.specs.List.{range_with_len}
 use Rattle.byteorder.specs.Endian.{twos_complement}
@@ -38,7 +39,8 @@ switch_target code at count i = target 4 (at + 4 + 4 * count) (u32_of code (at +
 
 abbrev pub switch_at : List ℕ → ℕ → ℕ → Option Arg
 switch_at code at count =
-    if nat_le (at + 4 + 4 * count) (length code) then Some (args.Targets (map (switch_target code at count) (range_with_len 0 count))) else None
+    if nat_le (at + 4 + 4 * count) (length code) then Some
+    (args.Targets (map (switch_target code at count) (range_with_len 0 count))) else None
 
 abbrev pub switch_operand_at : List ℕ → ℕ → Option Arg
 switch_operand_at code at = option_and_then (switch_at code at) (field_at 4 code at)

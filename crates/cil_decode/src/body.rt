@@ -12,7 +12,7 @@ use rtr_bytes::NoMemory;
 use std::alloc::{AllocError, AllocFailed, Global};
 use thiserror::Error;
 
-/// Why a code can't be decoded. Each but want of memory has the offset of the instruction.
+/// Why a code can't be decoded. Each but want of memory has the instruction's offset in the code, in bytes.
 #[derive(Clone, Copy, Debug, PartialEq, Eq, Error)]
 pub enum BodyRefusal {
     /// The instruction passes the end of the code.
@@ -98,10 +98,10 @@ fn read_linked(alloc: Global, code: &[u8]) -> Result<Vec<Instr>, BodyRefusal>
     Ok(list)
 }
 
-/// The instructions of a method's code, which has at most 2^31 bytes (ECMA-335 III.1.7). The first instruction that can't
-/// be read decides: `OutOfProfile` where its opcode is outside the profile, `Cut` where it passes the end, as FE alone at
-/// the end does; empty code is `Cut(0)`. Where all can be read, `BadTarget` comes at the first with a target at which
-/// no instruction begins. Its time is linear in the code.
+/// The instructions of a method's code, which has at most 2^31 bytes (ECMA-335 III.1.7). The first instruction that
+/// can't be read decides: `OutOfProfile` where its opcode is outside the profile, `Cut` where it passes the end, as FE
+/// alone at the end does; empty code is `Cut(0)`. Where all can be read, `BadTarget` comes at the first with a target
+/// at which no instruction begins. `NoMemory` comes where memory is refused.
 pub fn decode_body(alloc: Global, code: &[u8]) -> Result<Vec<Instr>, BodyRefusal>
     requires { length code.now ≤ 2 ^ 31 }
     ensures body { IfOk result (λ list. IsBody code.now list.items) }

@@ -104,7 +104,9 @@ fn put_all(out: &mut Vec<u8>, list: &[Instr]) -> Result<(), NoMemory>
     Ok(())
 }
 
-/// The code of instructions to which some code decodes. It is that code: no other one decodes to them.
+/// The code of instructions (ECMA-335 III.1.2 and III.1.7). They are all the instructions of some code, as
+/// [`decode_body`](crate::decode_body) gives them. The answer is that code: no other one decodes to them.
+/// `NoMemory` comes where memory is refused.
 pub fn encode_body(alloc: Global, list: &[Instr]) -> Result<Vec<u8>, NoMemory>
     requires { IsDecoded list.now }
     ensures code { IfOk result (λ code. IsBody code.items list.now) }

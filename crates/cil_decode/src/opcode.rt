@@ -213,7 +213,8 @@ fn find_opcode(table: &[Opcode], form: u16) -> Option<Opcode>
     table.iter().copied().find(|opcode| opcode.has_form(form))
 }
 
-/// The opcode of a form. `None` exactly where the form is outside the profile.
+/// The opcode of a form: one byte, or 0xFE00 and the second byte of two (ECMA-335 III.1.2). `None` exactly where the
+/// form is outside the profile.
 #[tactic(auto, unfolding(crate::specs::Opcodes::opcode_of))]
 pub fn opcode_of(form: u16) -> Option<Opcode>
     ensures { result ≡ opcode_of form }
@@ -221,7 +222,7 @@ pub fn opcode_of(form: u16) -> Option<Opcode>
     find_opcode(&OPCODES, form)
 }
 
-/// The operand of an opcode. `None` exactly where the opcode is outside the profile.
+/// The operand of the opcode of a form. `None` exactly where the form is outside the profile.
 #[tactic(auto, unfolding(crate::specs::Opcodes::operand_of))]
 pub fn operand_of(form: u16) -> Option<Operand>
     ensures { result ≡ operand_of form }

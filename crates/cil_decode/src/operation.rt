@@ -217,7 +217,8 @@ fn operation_of(instr: &Instr) -> Option<Operation>
 }
 
 impl Instr {
-    /// What the instruction does. `None` exactly where its opcode is outside the profile.
+    /// What the instruction does, with the number of its operand (ECMA-335 III.3 and III.4): an index modulo 2^16, of a
+    /// constant of four bytes the low 32 bits. `None` exactly where its opcode is outside the profile.
     pub fn operation(&self) -> Option<Operation>
         ensures operation { result ≡ operation_of self.now }
         ensures known { is_some result ≡ is_some (operand_of self.now.form) }

@@ -1,5 +1,6 @@
 -- No spelling begins another.
-use Rattle.std.proofs.Common.{◌≡◌, ℕ, Bool, true, false, List, [], ◌∷◌, ◌++◌, length, drop, eqb, ltb, cond, refl, sym, ap, ◌∙◌, arith, append_assoc}
+use Rattle.std.proofs.Common.{◌≡◌, ℕ, Bool, true, false, List, [], ◌∷◌, ◌++◌, length, drop, eqb, ltb, cond, refl, sym, ap, ◌∙◌, arith}
+use Rattle.std.proofs.Common.{append_assoc}
 use Rattle.std.proofs.Math.Seq.{drop-append_seam}
 use Rattle.rtr_bytes.specs.Compressed.{IsCompressed}
 use Rattle.rtr_bytes.specs.Spelling.{NoneBeginsAnother}
@@ -15,12 +16,13 @@ use Rattle.fixup_sigs.specs.declared.signature.Shape.TheVariants as shapes
 use Rattle.fixup_sigs.specs.Fixup.{signature_of, shape_of, IsPair, IsSigType, flags_of, IsFieldToken, IsPayload, IsFixup}
 use Rattle.fixup_sigs.proofs.Signatures.{same_field}
 
--- what stands behind fronts that are one
+-- what is after fronts that are one
 behind_fronts : (a b x y : List ℕ) → a ≡ b → a ++ x ≡ b ++ y → x ≡ y
 behind_fronts a b x y e whole =
     sym (drop-append_seam a x) ∙ ap (drop (length a)) whole ∙ ap (λ f. drop (length f) (b ++ y)) e ∙ drop-append_seam b y
 
-pair_apart : {X Y : Type 0} (P : List ℕ → X → Type 0) (Q : List ℕ → Y → Type 0) → NoneBeginsAnother P → NoneBeginsAnother Q → NoneBeginsAnother (IsPair P Q)
+pair_apart : {X Y : Type 0} (P : List ℕ → X → Type 0) (Q : List ℕ → Y → Type 0) → NoneBeginsAnother P → NoneBeginsAnother Q
+    → NoneBeginsAnother (IsPair P Q)
 pair_apart {X = X} {Y = Y} P Q ps qs a b more rest x y (a1, a2, ea, ax, ay) (b1, b2, eb, bx, by_) whole =
     let parts : a1 ++ (a2 ++ more) ≡ b1 ++ (b2 ++ rest) =
     sym (append_assoc a1 a2 more) ∙ ap (λ s. s ++ more) (sym ea) ∙ whole ∙ ap (λ s. s ++ rest) eb ∙ append_assoc b1 b2 rest in
@@ -31,12 +33,13 @@ pair_apart {X = X} {Y = Y} P Q ps qs a b more rest x y (a1, a2, ea, ax, ay) (b1,
     )
 
 -- the first bytes and what follows them, of lists that go on to one
-heads : (a b as1 bs1 more rest : List ℕ) (k l : ℕ) → a ≡ k ∷ as1 → b ≡ l ∷ bs1 → a ++ more ≡ b ++ rest → (k ≡ l) × (as1 ++ more ≡ bs1 ++ rest)
+heads : (a b as1 bs1 more rest : List ℕ) (k l : ℕ) → a ≡ k ∷ as1 → b ≡ l ∷ bs1 → a ++ more ≡ b ++ rest
+    → (k ≡ l) × (as1 ++ more ≡ bs1 ++ rest)
 heads a b as1 bs1 more rest k l ea eb whole =
     let cells : k ∷ (as1 ++ more) ≡ l ∷ (bs1 ++ rest) = ap (λ s. s ++ more) (sym ea) ∙ whole ∙ ap (λ s. s ++ rest) eb in
     ((cc), (cc))
 
--- a type's first byte, and what stands behind it
+-- a type's first byte, and what is after it
 abbrev first_byte : SigType → ℕ
 first_byte (types.Int element) = element
 first_byte types.Str = 0x0E
@@ -79,10 +82,16 @@ same_flags true true e = refl
 
 field_apart : NoneBeginsAnother IsCompressed → NoneBeginsAnother IsFieldToken
 field_apart numbers a b more rest field other h k whole =
-    let (same, parts) = pair_apart IsCompressed IsCompressed numbers numbers a b more rest (flags_of field.member_ref, field.row) (flags_of other.member_ref, other.row) h k whole in
-    (same, same_field field other (same_flags field.member_ref other.member_ref (ap (λ (p : ℕ × ℕ). p.0) parts)) (ap (λ (p : ℕ × ℕ). p.1) parts))
+    let (same, parts) =
+    pair_apart IsCompressed IsCompressed numbers numbers a b more rest (flags_of field.member_ref, field.row)
+    (flags_of other.member_ref, other.row) h k whole in (
+      same,
+      same_field field other (same_flags field.member_ref other.member_ref (ap (λ (p : ℕ × ℕ). p.0) parts))
+          (ap (λ (p : ℕ × ℕ). p.1) parts),
+    )
 
-payload_apart : NoneBeginsAnother IsCompressed → (a b more rest : List ℕ) (p q : Payload) → shape_of p ≡ shape_of q → IsPayload a p → IsPayload b q → a ++ more ≡ b ++ rest → (a ≡ b) × (p ≡ q)
+payload_apart : NoneBeginsAnother IsCompressed → (a b more rest : List ℕ) (p q : Payload) → shape_of p ≡ shape_of q → IsPayload a p
+    → IsPayload b q → a ++ more ≡ b ++ rest → (a ≡ b) × (p ≡ q)
 payload_apart numbers a b more rest (payloads.Number m) (payloads.Number n) e h k whole =
     let (same, is) = numbers a b more rest m n h k whole in (same, ap (λ v. payloads.Number v) is)
 payload_apart numbers a b more rest (payloads.OfType of) (payloads.OfType other) e h k whole =
@@ -124,10 +133,12 @@ elem_of of = 0
 
 fixup_from : ℕ → Payload → Fixup
 fixup_from kind (payloads.Number n) =
-    cond (eqb kind 0x14) (fixups.MethodEntryDefToken n) (cond (eqb kind 0x15) (fixups.MethodEntryRefToken n) (cond (eqb kind 0x17) (fixups.VirtualEntryDefToken n)
+    cond (eqb kind 0x14) (fixups.MethodEntryDefToken n)
+    (cond (eqb kind 0x15) (fixups.MethodEntryRefToken n) (cond (eqb kind 0x17) (fixups.VirtualEntryDefToken n)
     (cond (eqb kind 0x18) (fixups.VirtualEntryRefToken n) (cond (eqb kind 0x1A) (fixups.Helper n) (fixups.StringHandle n)))))
 fixup_from kind (payloads.OfType of) =
-    cond (eqb kind 0x1C) (fixups.NewObject of) (cond (eqb kind 0x1D) (fixups.NewArray (elem_of of)) (cond (eqb kind 0x1E) (fixups.IsInstanceOf of)
+    cond (eqb kind 0x1C) (fixups.NewObject of)
+    (cond (eqb kind 0x1D) (fixups.NewArray (elem_of of)) (cond (eqb kind 0x1E) (fixups.IsInstanceOf of)
     (cond (eqb kind 0x1F) (fixups.ChkCast of) (fixups.FieldBaseOffset of))))
 fixup_from kind (payloads.OfField field) = cond (eqb kind 0x20) (fixups.FieldAddress field) (fixups.FieldOffset field)
 fixup_from kind (payloads.OffsetAndField offset field) = fixups.CheckFieldOffset offset field
@@ -155,5 +166,6 @@ fixups_apart numbers a b more rest f g (tail, ea, h) (end, eb, k) whole =
     let shape = sym (shape_is f) ∙ ap shape_at kind ∙ shape_is g in
     let (same, payload) = payload_apart numbers tail end more rest (signature_of f).payload (signature_of g).payload shape h k tails in (
       ea ∙ ap (λ v. v ∷ tail) kind ∙ ap (λ v. (signature_of g).kind ∷ v) same ∙ sym eb,
-      sym (fixup_is f) ∙ ap (λ v. fixup_from v (signature_of f).payload) kind ∙ ap (λ v. fixup_from (signature_of g).kind v) payload ∙ fixup_is g,
+      sym (fixup_is f) ∙ ap (λ v. fixup_from v (signature_of f).payload) kind ∙ ap (λ v. fixup_from (signature_of g).kind v) payload
+          ∙ fixup_is g,
     )

@@ -11,13 +11,15 @@ use Rattle.fixup_sigs.proofs.Places.{behind_begins, begins_behind}
 
 pub same_field : (field other : FieldToken) → field.member_ref ≡ other.member_ref → field.row ≡ other.row → field ≡ other
 same_field field other m r =
-    ap (λ b. let f : FieldToken = record { member_ref = b; row = field.row } in f) m ∙ ap (λ n. let f : FieldToken = record { member_ref = other.member_ref; row = n } in f) r
+    ap (λ b. let f : FieldToken = record { member_ref = b; row = field.row } in f) m
+    ∙ ap (λ n. let f : FieldToken = record { member_ref = other.member_ref; row = n } in f) r
 
 pub same_signature : (s : Signature) (kind : ℕ) (payload : Payload) → s.kind ≡ kind → s.payload ≡ payload → s ≡ signature kind payload
 same_signature s kind payload k p = ap (λ b. signature b s.payload) k ∙ ap (λ (q : Payload). signature kind q) p
 
--- a kind's byte and a payload behind it are the fixup that has them
-pub fixup_begins : (bytes : List ℕ) (at next : ℕ) (fixup : Fixup) (kind : ℕ) (payload : Payload) → signature_of fixup ≡ signature kind payload
+-- a kind's byte and a payload after it are the fixup that has them
+pub fixup_begins : (bytes : List ℕ) (at next : ℕ) (fixup : Fixup) (kind : ℕ) (payload : Payload)
+    → signature_of fixup ≡ signature kind payload
     → at < length bytes → get_or bytes at 0 ≡ kind → BeginsAt IsPayload bytes (at + 1) payload next → BeginsAt IsFixup bytes at fixup next
 fixup_begins bytes at next fixup kind payload e inside first h =
     let P : Signature → Type 0 = λ s. BeginsAt (IsBehind s.kind IsPayload) bytes at s.payload next in
@@ -26,7 +28,8 @@ fixup_begins bytes at next fixup kind payload e inside first h =
 -- the answer of the payload's read, where a fixup is spelled
 pub fixup_read : (bytes : List ℕ) (at kind : ℕ) (shape : Shape) (answer : Option (Payload × ℕ)) → get_or bytes at 0 ≡ kind
     → ((f : Fixup) → (signature_of f).kind ≡ kind → Some shape ≡ Some (shape_of (signature_of f).payload))
-    → ((payload : Payload) (next : ℕ) → shape_of payload ≡ shape → BeginsAt IsPayload bytes (at + 1) payload next → ◌≡◌ {A = Option (Payload × ℕ)} answer (Some (payload, next)))
+    → ((payload : Payload) (next : ℕ) → shape_of payload ≡ shape → BeginsAt IsPayload bytes (at + 1) payload next
+    → ◌≡◌ {A = Option (Payload × ℕ)} answer (Some (payload, next)))
     → (fixup : Fixup) (next : ℕ) → BeginsAt IsFixup bytes at fixup next
     → ((signature_of fixup).kind ≡ kind) × (◌≡◌ {A = Option (Payload × ℕ)} answer (Some ((signature_of fixup).payload, next)))
 fixup_read bytes at kind shape answer first shapes only fixup next h =

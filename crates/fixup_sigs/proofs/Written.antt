@@ -1,5 +1,6 @@
 -- The spelling that the writer writes: it spells the value, and none is shorter.
-use Rattle.std.proofs.Common.{◌≤◌, ◌<◌, ◌+◌, ◌^◌, ℕ, Bool, true, false, List, [], ◌∷◌, ◌++◌, length, refl, ap, arith, append_assoc, length-append}
+use Rattle.std.proofs.Common.{◌≤◌, ◌<◌, ◌+◌, ◌^◌, ℕ, Bool, true, false, List, [], ◌∷◌, ◌++◌, length, refl, ap, arith, append_assoc}
+use Rattle.std.proofs.Common.{length-append}
 use Rattle.std.proofs.Math.Seq.{drop-append_seam}
 use Rattle.rtr_bytes.specs.Compressed.{IsCompressed, compressed_bytes}
 use Rattle.rtr_bytes.specs.Spelling.{BeginsAt}
@@ -31,7 +32,8 @@ flags_spelled false = (omega arith, refl)
 flags_spelled true = (omega arith, refl)
 
 field_spelled : NumbersSpelled → (field : FieldToken) → field.row < 2 ^ 29 → IsFieldToken (field_bytes field) field
-field_spelled numbers field h = (flags_of field.member_ref ∷ [], compressed_bytes field.row, refl, flags_spelled field.member_ref, numbers field.row h)
+field_spelled numbers field h =
+    (flags_of field.member_ref ∷ [], compressed_bytes field.row, refl, flags_spelled field.member_ref, numbers field.row h)
 
 payload_spelled : NumbersSpelled → (payload : Payload) → IsSpellablePayload payload → IsPayload (payload_bytes payload) payload
 payload_spelled numbers (payloads.Number n) h = numbers n h
@@ -54,21 +56,31 @@ flags_shortest : NumbersShortest → (bytes : List ℕ) (b : Bool) → IsCompres
 flags_shortest numbers bytes false h = numbers bytes 0x00 h
 flags_shortest numbers bytes true h = numbers bytes 0x10 h
 
-field_shortest : NumbersShortest → (bytes : List ℕ) (field : FieldToken) → IsFieldToken bytes field → length (field_bytes field) ≤ length bytes
+field_shortest : NumbersShortest → (bytes : List ℕ) (field : FieldToken) → IsFieldToken bytes field
+    → length (field_bytes field) ≤ length bytes
 field_shortest numbers bytes field (front, back, e, h, k) =
     omega (arith, ap length e, length-append front back, flags_shortest numbers front field.member_ref h, numbers back field.row k)
 
-payload_shortest : NumbersShortest → (bytes : List ℕ) (payload : Payload) → IsPayload bytes payload → length (payload_bytes payload) ≤ length bytes
+payload_shortest : NumbersShortest → (bytes : List ℕ) (payload : Payload) → IsPayload bytes payload
+    → length (payload_bytes payload) ≤ length bytes
 payload_shortest numbers bytes (payloads.Number n) h = numbers bytes n h
 payload_shortest numbers bytes (payloads.OfType of) h = type_shortest numbers bytes of h
 payload_shortest numbers bytes (payloads.OfField field) h = field_shortest numbers bytes field h
 payload_shortest numbers bytes (payloads.OffsetAndField offset field) (front, back, e, h, k) =
-    omega (arith, ap length e, length-append front back, length-append (compressed_bytes offset) (field_bytes field), numbers front offset h, field_shortest numbers back field k)
+    omega (
+      arith,
+      ap length e,
+      length-append front back,
+      length-append (compressed_bytes offset) (field_bytes field),
+      numbers front offset h,
+      field_shortest numbers back field k,
+    )
 
 pub fixup_shortest : NumbersShortest → (bytes : List ℕ) (fixup : Fixup) → IsFixup bytes fixup → length (fixup_bytes fixup) ≤ length bytes
 fixup_shortest numbers bytes fixup (rest, e, h) = omega (arith, ap length e, payload_shortest numbers rest (signature_of fixup).payload h)
 
--- what is written behind other bytes begins there
+-- what is written after other bytes begins there
 pub begins_after : {X : Type 0} (Spells : List ℕ → X → Type 0) (spelling before rest : List ℕ) (x : X) → Spells spelling x
     → BeginsAt Spells (before ++ spelling ++ rest) (length before) x (length before + length spelling)
-begins_after Spells spelling before rest x spelled = (spelling, rest, rw append_assoc (drop-append_seam before (spelling ++ rest)), spelled, refl)
+begins_after Spells spelling before rest x spelled =
+    (spelling, rest, rw append_assoc (drop-append_seam before (spelling ++ rest)), spelled, refl)

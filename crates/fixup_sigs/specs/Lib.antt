@@ -1,3 +1,4 @@
 pub mod Fixup
 pub mod Reading
 pub mod Shortest
+pub mod Laws

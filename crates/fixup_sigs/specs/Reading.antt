@@ -1,7 +1,8 @@
 -- The fixup that bytes begin with, computed: `read_fixup` answers it, and a law says that it is the one whose
 -- spelling begins there.
-use Rattle.std.specs.Prelude.{ℕ, ◌+◌, ◌-◌, ◌*◌, ◌==◌, ◌&&◌, List, [], ◌∷◌, drop, length, Bool, true, false, Option, Some, None, if◌then◌else◌, nat_le, nat_lt}
+use Rattle.std.specs.Prelude.{ℕ, ◌-◌, ◌==◌, ◌&&◌, List, [], ◌∷◌, drop, length, Bool, true, false, Option, Some, None, if◌then◌else◌, nat_le}
 use Rattle.std.specs.Option.{option_map}
+use Rattle.rtr_bytes.specs.Compressed.{compressed_in}
 use Rattle.fixup_sigs.specs.declared.fixup.Fixup.{Fixup}
 use Rattle.fixup_sigs.specs.declared.fixup.Fixup.TheVariants as fixups
 use Rattle.fixup_sigs.specs.declared.fixup.SigType.{SigType}
@@ -22,22 +23,12 @@ abbrev pub then_in : {X Y : Type 0} → Found X → (X → List ℕ → Found Y)
 then_in None next = None
 then_in (Some (x, rest)) next = next x rest
 
--- compressed numbers (ECMA-335 II.23.2): the bytes of one after the top bits of its first
-abbrev pub two_in : ℕ → List ℕ → Found ℕ
-two_in high [] = None
-two_in high (b ∷ rest) = if nat_lt b 256 then Some (high * 256 + b, rest) else None
+-- a compressed number (ECMA-335 II.23.2), by how many bytes it has
+abbrev pub with_rest : List ℕ → ℕ × ℕ → ℕ × List ℕ
+with_rest bytes found = (found.0, drop found.1 bytes)
 
-abbrev pub four_in : ℕ → List ℕ → Found ℕ
-four_in high (b ∷ c ∷ d ∷ rest) = if nat_lt b 256 && nat_lt c 256 && nat_lt d 256 then Some (((high * 256 + b) * 256 + c) * 256 + d, rest) else None
-four_in high _ = None
-
-unfoldable pub compressed_in : List ℕ → Found ℕ
-compressed_in [] = None
-compressed_in (a ∷ rest) =
-    if nat_lt a 0x80 then Some (a, rest)
-    else if nat_lt a 0xC0 then two_in (a - 0x80) rest
-    else if nat_lt a 0xE0 then four_in (a - 0xC0) rest
-    else None
+unfoldable pub number_in : List ℕ → Found ℕ
+number_in bytes = option_map (with_rest bytes) (compressed_in bytes)
 
 -- an integer type, BOOLEAN 02 to U8 0B (ECMA-335 II.23.1.16)
 abbrev pub is_element : ℕ → Bool
@@ -54,7 +45,7 @@ type_in (e ∷ rest) =
     if is_element e then Some (types.Int e, rest)
     else if e == 0x0E then Some (types.Str, rest)
     else if e == 0x1C then Some (types.Object, rest)
-    else if e == 0x12 then made types.Class (compressed_in rest)
+    else if e == 0x12 then made types.Class (number_in rest)
     else if e == 0x1D then made types.Array (element_in rest)
     else None
 
@@ -68,20 +59,21 @@ abbrev pub token : Bool → ℕ → FieldToken
 token member_ref row = record { member_ref = member_ref; row = row }
 
 abbrev pub row_in : ℕ → List ℕ → Found FieldToken
-row_in flags rest = if flags == 0x00 then made (token false) (compressed_in rest) else if flags == 0x10 then made (token true) (compressed_in rest) else None
+row_in flags rest =
+    if flags == 0x00 then made (token false) (number_in rest) else if flags == 0x10 then made (token true) (number_in rest) else None
 
 unfoldable pub field_in : List ℕ → Found FieldToken
-field_in bytes = then_in (compressed_in bytes) row_in
+field_in bytes = then_in (number_in bytes) row_in
 
 -- a fixup: the byte of its kind, and the payload of that kind
 unfoldable pub payload_in : ℕ → List ℕ → Found Fixup
 payload_in kind rest =
-    if kind == 0x14 then made fixups.MethodEntryDefToken (compressed_in rest)
-    else if kind == 0x15 then made fixups.MethodEntryRefToken (compressed_in rest)
-    else if kind == 0x17 then made fixups.VirtualEntryDefToken (compressed_in rest)
-    else if kind == 0x18 then made fixups.VirtualEntryRefToken (compressed_in rest)
-    else if kind == 0x1A then made fixups.Helper (compressed_in rest)
-    else if kind == 0x1B then made fixups.StringHandle (compressed_in rest)
+    if kind == 0x14 then made fixups.MethodEntryDefToken (number_in rest)
+    else if kind == 0x15 then made fixups.MethodEntryRefToken (number_in rest)
+    else if kind == 0x17 then made fixups.VirtualEntryDefToken (number_in rest)
+    else if kind == 0x18 then made fixups.VirtualEntryRefToken (number_in rest)
+    else if kind == 0x1A then made fixups.Helper (number_in rest)
+    else if kind == 0x1B then made fixups.StringHandle (number_in rest)
     else if kind == 0x1C then made fixups.NewObject (type_in rest)
     else if kind == 0x1D then made fixups.NewArray (array_type_in rest)
     else if kind == 0x1E then made fixups.IsInstanceOf (type_in rest)
@@ -89,7 +81,7 @@ payload_in kind rest =
     else if kind == 0x20 then made fixups.FieldAddress (field_in rest)
     else if kind == 0x26 then made fixups.FieldBaseOffset (type_in rest)
     else if kind == 0x27 then made fixups.FieldOffset (field_in rest)
-    else if kind == 0x2B then then_in (compressed_in rest) (λ offset more. made (fixups.CheckFieldOffset offset) (field_in more))
+    else if kind == 0x2B then then_in (number_in rest) (λ offset more. made (fixups.CheckFieldOffset offset) (field_in more))
     else None
 
 abbrev pub fixup_in : List ℕ → Found Fixup

@@ -2,7 +2,7 @@
 
 /// The first of the ten integer types.
 pub(crate) const BOOLEAN: u8 = 0x02;
-/// The last of the ten integer types: CHAR, I1, U1, I2, U2, I4, U4 and I8 lie between.
+/// The last of the ten integer types: CHAR, I1, U1, I2, U2, I4, U4 and I8 are between.
 pub(crate) const U8: u8 = 0x0B;
 /// A string.
 pub(crate) const STRING: u8 = 0x0E;

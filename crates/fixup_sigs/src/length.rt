@@ -8,7 +8,8 @@ use crate::fixup::{FieldToken, Fixup, SigType};
 use crate::signature::{Payload, Signature};
 
 impl Fixup {
-    /// How many bytes [`write_fixup`](crate::write_fixup) appends for the fixup. It takes no memory.
+    /// How many bytes [`write_fixup`](crate::write_fixup) appends for the fixup, 10 at most. It has no condition and takes
+    /// no memory: of a fixup without a spelling it counts 4 bytes for a number that is too large.
     pub fn signature_len(&self) -> u32
         ensures exact { result ≡ length (fixup_bytes self.now) }
         ensures most { result ≤ 10 }

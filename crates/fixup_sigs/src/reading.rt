@@ -1,9 +1,10 @@
 //! Reading a fixup at a file offset.
 
 ghost use Rattle.std.specs.Prelude.{◌≡◌, ◌≤◌, ◌<◌, ◌^◌, ℕ, Bool, Some, length, IfSome};
+ghost use Rattle.std.specs.Option.{option_map};
 ghost use Rattle.rtr_bytes.specs.Spelling.{BeginsAt};
 ghost use Rattle.fixup_sigs.specs.Fixup.{IsSigType, IsFieldToken, IsPayload, IsFixup, shape_of, flags_of};
-ghost use Rattle.fixup_sigs.specs.Reading.{fixup_and_next_at};
+ghost use Rattle.fixup_sigs.specs.Reading.{fixup_and_next_at, fixup_at, without_next};
 ghost use Rattle.fixup_sigs.specs.Shortest.{IsSpellableType, IsSpellablePayload, IsSpellable};
 
 use crate::element::{BOOLEAN, CLASS, OBJECT, STRING, SZARRAY, U8};
@@ -12,8 +13,9 @@ use crate::kind::{FIELD, MEMBER_REF};
 use crate::signature::{Payload, Shape, Signature, shape_after};
 use rtr_bytes::compressed_at;
 
-/// The fixup whose signature begins at a file offset, and the offset after it. Longer spellings of its
-/// numbers are read too. `None` exactly where the bytes there begin with no fixup. It takes no memory.
+/// The fixup whose signature begins at a file offset, and the file offset after it (ReadyToRun File Format, "Fixups").
+/// Longer spellings of its numbers are read too. `None` exactly where the bytes there begin with no fixup: its kind or an
+/// element type is of another number, or the bytes end in it. It takes no memory.
 pub fn read_fixup(bytes: &[u8], at: u32) -> Option<(Fixup, u32)>
     requires { length bytes.now ≤ 2 ^ 31 }
     // The fixup is spelled by exactly the bytes up to the next place.
@@ -23,6 +25,7 @@ pub fn read_fixup(bytes: &[u8], at: u32) -> Option<(Fixup, u32)>
         → result ≡ Some (fixup, next) }
     // The same, as a function of the bytes.
     ensures exact { result ≡ fixup_and_next_at bytes.now at }
+    ensures alone { option_map without_next result ≡ fixup_at bytes.now at }
     // It can be written again.
     ensures spellable { IfSome result (λ found. IsSpellable found.0) }
 {

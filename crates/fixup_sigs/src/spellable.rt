@@ -12,7 +12,8 @@ use crate::signature::{Payload, Signature};
 const LIMIT: u32 = 1 << 29;
 
 impl Fixup {
-    /// Whether the fixup has a spelling: its numbers are below 2^29, and its element types are from 02 (BOOLEAN) to 0B (U8).
+    /// Whether the fixup has a spelling, which is the condition of [`write_fixup`](crate::write_fixup): its numbers are
+    /// below 2^29 (ECMA-335 II.23.2), and its element types are from 02 (BOOLEAN) to 0B (U8). It takes no memory.
     pub fn is_spellable(&self) -> bool
         ensures { IsTrue result ↔ IsSpellable self.now }
     {

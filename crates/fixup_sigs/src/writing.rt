@@ -10,8 +10,9 @@ use crate::kind::{FIELD, MEMBER_REF};
 use crate::signature::{Payload, Signature};
 use rtr_bytes::{NoMemory, put_compressed};
 
-/// Appends a fixup's signature in its shortest spelling. Its numbers are below 2^29, and its element types are
-/// from 02 (BOOLEAN) to 0B (U8). After an `Err` the vector has what it had.
+/// Appends a fixup's signature in its shortest spelling (ReadyToRun File Format, "Fixups"), which is 10 bytes at most.
+/// Its numbers are below 2^29, and its element types are from 02 (BOOLEAN) to 0B (U8), which
+/// [`Fixup::is_spellable`] tests. `Err` where memory is refused, and then the vector has what it had.
 pub fn write_fixup(out: &mut Vec<u8>, fixup: &Fixup) -> Result<(), NoMemory>
     requires { IsSpellable fixup.now }
     ensures written { OnOk result (out.new.items ≡ out.old.items ++ fixup_bytes fixup.now) }

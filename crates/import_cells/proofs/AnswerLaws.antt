@@ -1,12 +1,14 @@
 -- The answers of each worker are allowed.
-use Rattle.std.proofs.Common.{◌≡◌, ℕ, ◌==◌, ◌⊎◌, inl, inr, Bool, true, false, List, [], ◌∷◌, Some, sym, refl, ap, ◌∙◌, subst, eq-eqb, if◌then◌else◌}
+use Rattle.std.proofs.Common.{◌≡◌, ℕ, ◌==◌, ◌⊎◌, inl, inr, Bool, true, false, List, [], ◌∷◌, Some, sym, refl, ap, ◌∙◌}
+use Rattle.std.proofs.Common.{subst, eq-eqb, if◌then◌else◌}
 use mathlib.Core.Logic.{dite}
 use native.Mathlib.Decide.{ℕ_discrete}
 use Rattle.import_cells.specs.declared.plan.CellPlan.{CellPlan}
 use Rattle.import_cells.specs.declared.event.CellEvent.{CellEvent}
 use Rattle.import_cells.specs.declared.event.CellEvent.TheVariants.{Loaded, Asked}
 use Rattle.import_cells.specs.Plan.{In, initial_of, bound_of, is_eager, IsPlan}
-use Rattle.import_cells.specs.Core.{WorkerEvent, asks, asked_on, of_worker, word_after, asked_after, IsCoreEvent, IsCore, AsksInOrder, AllowedAnswer, IsAllowed, Allowed, OnlyAsker, OneOf, Quiet}
+use Rattle.import_cells.specs.Core.{WorkerEvent, asks, asked_on, of_worker, word_after, asked_after, IsCoreEvent}
+use Rattle.import_cells.specs.Core.{IsCore, AsksInOrder, AllowedAnswer, IsAllowed, Allowed, OnlyAsker, OneOf, Quiet}
 use Rattle.import_cells.proofs.Plans.{in_ready}
 use Rattle.import_cells.proofs.CoreLaws.{word_either, asked_is_bound, new_was_asked, ready_was_asked, shown_is_bound}
 

@@ -1,12 +1,15 @@
 -- What the core's lists of events leave in the words.
-use Rattle.std.proofs.Common.{◌≡◌, ◌≢◌, ℕ, ◌==◌, ◌&&◌, not, ◌⊎◌, inl, inr, ⊎_elim, Bool, true, false, List, [], ◌∷◌, ◌++◌, Option, Some, None, sym, refl, ◌∙◌, subst, eq-eqb, if◌then◌else◌}
+use Rattle.std.proofs.Common.{◌≡◌, ◌≢◌, ℕ, ◌==◌, ◌&&◌, not, ◌⊎◌, inl, inr, ⊎_elim, Bool, true, false, List, [], ◌∷◌}
+use Rattle.std.proofs.Common.{◌++◌, Option, Some, None, sym, refl, ◌∙◌, subst, eq-eqb, if◌then◌else◌}
 use mathlib.Core.Logic.{dite}
 use native.Mathlib.Decide.{ℕ_discrete}
 use Rattle.import_cells.specs.declared.plan.CellPlan.{CellPlan}
 use Rattle.import_cells.specs.declared.event.CellEvent.{CellEvent}
 use Rattle.import_cells.specs.declared.event.CellEvent.TheVariants.{Loaded, Asked}
 use Rattle.import_cells.specs.Plan.{In, initial_of, bound_of, is_eager, first_of, can_bind, IsReady, IsPlan, ready_cells}
-use Rattle.import_cells.specs.Core.{WorkerEvent, same_value, asks, asked_on, of_worker, value_of, word_by, word_after, IsBound, asked_after, IsCoreEvent, IsCore, ComesAfterFirst, AsksInOrder, AskedFirst, EachAsksFirst, is_new, shown_by, shown, opening_of}
+use Rattle.import_cells.specs.Core.{WorkerEvent, same_value, asks, asked_on, of_worker, value_of, word_by, word_after}
+use Rattle.import_cells.specs.Core.{IsBound, asked_after, IsCoreEvent, IsCore, ComesAfterFirst, AsksInOrder, AskedFirst}
+use Rattle.import_cells.specs.Core.{EachAsksFirst, is_new, shown_by, shown, opening_of}
 use Rattle.import_cells.proofs.Lists.{in_either, both_ways, where_equal, was_other}
 use Rattle.import_cells.proofs.Plans.{value_is, can_from, value_from, value_either, can_from_other, ready_in, in_ready, eager_is_first}
 

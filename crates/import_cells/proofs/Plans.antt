@@ -1,10 +1,14 @@
 -- What a plan says of one cell.
-use Rattle.std.proofs.Common.{◌≡◌, ◌≢◌, ℕ, zero, suc, ◌+◌, ◌<◌, ◌≤◌, ◌&&◌, ◌⊎◌, ◌↔◌, inl, inr, ⊎_elim, Bool, true, false, List, [], ◌∷◌, map, length, get_or, Option, Some, None, is_some, sym, refl, ap, ◌∙◌, subst, arith, add-one, if◌then◌else◌}
+use Rattle.std.proofs.Common.{◌≡◌, ◌≢◌, ℕ, zero, suc, ◌+◌, ◌<◌, ◌≤◌, ◌&&◌, ◌⊎◌, ◌↔◌, inl, inr, ⊎_elim, Bool, true}
+use Rattle.std.proofs.Common.{false, List, [], ◌∷◌, map, length, get_or, Option, Some, None, is_some, sym, refl, ap}
+use Rattle.std.proofs.Common.{◌∙◌, subst, arith, add-one, if◌then◌else◌}
 use Rattle.std.specs.Option.{unwrap_or}
 use Rattle.std.specs.List.{slice_get}
 use Rattle.std.proofs.lemmas.Option.{slice_get_cases, slice_get_read}
 use Rattle.import_cells.specs.declared.plan.CellPlan.{CellPlan}
-use Rattle.import_cells.specs.Plan.{In, initial_in, bound_in, eager_in, first_in, is_ready, opening_in, ready_from, initial_of, bound_of, is_eager, first_of, can_bind, IsReady, ready_cells, IsSound, IsPlan}
+use Rattle.import_cells.specs.Plan.{In, initial_in, bound_in, eager_in, first_in, is_ready, opening_in, ready_from}
+use Rattle.import_cells.specs.Plan.{initial_of, bound_of, is_eager, first_of, can_bind, IsReady, ready_cells, IsSound}
+use Rattle.import_cells.specs.Plan.{IsPlan}
 use Rattle.import_cells.specs.Core.{value_of, opening_of}
 use Rattle.import_cells.proofs.Lists.{in_all}
 

@@ -1,5 +1,7 @@
 -- Each step keeps the rule.
-use Rattle.std.proofs.Common.{◌≡◌, ◌≢◌, ℕ, zero, suc, ◌+◌, ◌-◌, ◌<◌, ◌≤◌, eqb, ⊎_elim, List, [], ◌∷◌, map, length, get_or, set, Some, sym, refl, ap, ◌∙◌, subst, arith, length-set, get_or-set_same, get_or-set_other}
+use Rattle.std.proofs.Common.{◌≡◌, ◌≢◌, ℕ, zero, suc, ◌+◌, ◌-◌, ◌<◌, ◌≤◌, eqb, ⊎_elim, List, [], ◌∷◌, map, length}
+use Rattle.std.proofs.Common.{get_or, set, Some, sym, refl, ap, ◌∙◌, subst, arith, length-set, get_or-set_same}
+use Rattle.std.proofs.Common.{get_or-set_other}
 use mathlib.Core.Logic.{dite}
 use mathlib.Core.Option.{none, some, some-injective, some-ne-none}
 use native.Mathlib.Decide.{ℕ_discrete}
@@ -14,7 +16,8 @@ use Rattle.import_cells.specs.declared.event.CellEvent.{CellEvent}
 use Rattle.import_cells.specs.declared.event.CellEvent.TheVariants.{Loaded, Asked}
 use Rattle.import_cells.specs.declared.event.SeatView.{SeatView}
 use Rattle.import_cells.specs.Plan.{In, opening_in, initial_of, bound_of, first_of, IsPlan}
-use Rattle.import_cells.specs.Core.{WorkerEvent, asked_on, of_worker, value_of, word_by, word_after, asked_after, IsCoreEvent, ComesAfterFirst, shown_by}
+use Rattle.import_cells.specs.Core.{WorkerEvent, asked_on, of_worker, value_of, word_by, word_after, asked_after}
+use Rattle.import_cells.specs.Core.{IsCoreEvent, ComesAfterFirst, shown_by}
 use Rattle.import_cells.specs.Seats.{whole, first_view, after_event, kept_half, given_half, joined, spent_view, Run, IsNext}
 use Rattle.import_cells.specs.Shared.{AskedBySome, IsView, Kept, Sitter, loaded, asked}
 use Rattle.import_cells.proofs.Lists.{in_front, in_back, in_either, where_equal, where_other}

@@ -6,7 +6,8 @@ use Rattle.import_cells.specs.declared.event.CellEvent.{CellEvent}
 use Rattle.import_cells.specs.declared.event.CellEvent.TheVariants.{Loaded, Asked}
 use Rattle.import_cells.specs.declared.event.SeatView.{SeatView}
 use Rattle.import_cells.specs.Plan.{In, initial_of, bound_of, is_eager, first_of, IsWordOf, IsReady, IsPlan}
-use Rattle.import_cells.specs.Core.{WorkerEvent, of_worker, word_after, IsBound, IsCore, AsksInOrder, EachAsksFirst, asks, shown, Allowed, Quiet}
+use Rattle.import_cells.specs.Core.{WorkerEvent, of_worker, word_after, IsBound, IsCore, AsksInOrder, EachAsksFirst}
+use Rattle.import_cells.specs.Core.{asks, shown, Allowed, Quiet}
 use Rattle.import_cells.specs.Seats.{whole, first_view, after_event, after_events, IsNext, Answer}
 use Rattle.import_cells.specs.Shared.{Kept, Parts}
 

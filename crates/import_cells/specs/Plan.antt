@@ -1,6 +1,7 @@
 -- The plan of the import cells (ReadyToRun File Format, "Import Sections"): the word of each cell at first, the one value that
 -- binding gives it, and the cells that are bound before it. A cell outside the plan holds 0 and is never bound.
-use Rattle.std.specs.Prelude.{◌≡◌, ℕ, ◌<◌, ◌^◌, ◌+◌, ◌-◌, ◌⊎◌, ◌&&◌, if◌then◌else◌, Bool, true, false, List, [], ◌∷◌, length, Option, Some, None, is_some, unwrap_or, slice_get, All, ◌↔◌, slice_index_or}
+use Rattle.std.specs.Prelude.{◌≡◌, ℕ, ◌<◌, ◌^◌, ◌+◌, ◌-◌, ◌⊎◌, ◌&&◌, if◌then◌else◌, Bool, true, false, List, [], ◌∷◌}
+use Rattle.std.specs.Prelude.{length, Option, Some, None, is_some, unwrap_or, slice_get, All, ◌↔◌, slice_index_or}
 use Rattle.import_cells.specs.declared.plan.CellPlan.{CellPlan}
 
 -- the list has this cell

@@ -5,7 +5,8 @@ use Rattle.import_cells.specs.declared.plan.CellPlan.{CellPlan}
 use Rattle.import_cells.specs.declared.event.CellEvent.{CellEvent}
 use Rattle.import_cells.specs.declared.event.SeatView.{SeatView}
 use Rattle.import_cells.specs.Plan.{In, initial_of, bound_of, first_of, IsWordOf, IsReady, ready_cells}
-use Rattle.import_cells.specs.Core.{WorkerEvent, of_worker, asked_on, asked_after, shown_by, IsCore, IsCoreEvent, AsksInOrder, ComesAfterFirst}
+use Rattle.import_cells.specs.Core.{WorkerEvent, of_worker, asked_on, asked_after, shown_by, IsCore, IsCoreEvent}
+use Rattle.import_cells.specs.Core.{AsksInOrder, ComesAfterFirst}
 
 -- the cells: which ones they are, and their plan
 pub record CellsState : Type 0 where

@@ -33,9 +33,10 @@ impl Model for Cells {
 }
 
 impl Cells {
-    /// The cells of a plan, each with its initial value, or with its bound value if it is eager and has one, and
-    /// the first seat, which has the whole share. It takes the memory of the cells, of that seat and of
-    /// the answer of [`Cells::close`].
+    /// The cells of a plan, each with its initial value, or with its bound value if it is eager and has one, and the
+    /// first seat, which has the whole share, 65,536. [`is_plan`](crate::is_plan) tests that cells can be made of the
+    /// plan. It takes the memory of the cells, of that seat and of the answer of [`Cells::close`]; `NoMemory` comes
+    /// where it is refused.
     pub fn new(alloc: Global, plan: &[CellPlan]) -> Result<(Cells, Seat), NoMemory>
         requires { IsPlan plan.now }
         ensures plan { IfOk result (λ r. r.0.plan ≡ plan.now) }
@@ -49,8 +50,9 @@ impl Cells {
         Ok((Cells { plan, words }, Seat { asked, place }))
     }
 
-    /// A second seat, with half of the share of the first, rounded down. It knows what that one has seen, and
-    /// has asked nothing. After an `Err` the seat is as before.
+    /// A second seat, with half of the share of the first, rounded down. It knows what that one has seen, and has asked
+    /// nothing. The first is a seat of these cells, with a share of at least 2. `NoMemory` comes where memory is
+    /// refused, and then the seat is as before.
     pub fn split(&self, alloc: Global, seat: &mut Seat) -> Result<Seat, NoMemory>
         requires seat { IsSeatOf self.now seat.old }
         requires share { CanSplit seat.old }
@@ -64,7 +66,7 @@ impl Cells {
         Ok(Seat { asked, place })
     }
 
-    /// The cell's word, by one atomic load.
+    /// The cell's word, by one atomic load. The seat is one of these cells, and there is a cell of that number, from 0.
     pub fn read(&self, seat: &mut Seat, cell: u32) -> u64
         requires seat { IsSeatOf self.now seat.old }
         requires cell { HasCell self.now cell }
@@ -79,8 +81,9 @@ impl Cells {
             .load::<Loads>(&mut seat.place, cell as usize + 1)
     }
 
-    /// Gives the cell its bound value by one compare-and-exchange, and answers that value. It changes nothing
-    /// where the cell is bound already.
+    /// Gives the cell its bound value by one compare-and-exchange, and answers that value. It changes no word
+    /// where the cell is bound already. The seat is one of these cells and knows the cell's `first` cells to be bound,
+    /// and `value` is the bound value that the plan has for that number, from 0.
     pub fn bind(&self, seat: &mut Seat, cell: u32, value: u64) -> u64
         requires seat { IsSeatOf self.now seat.old }
         requires cell { HasCell self.now cell }
@@ -100,7 +103,8 @@ impl Cells {
         value
     }
 
-    /// Joins a seat into another one, which then has the shares of both and what both asked and saw.
+    /// Joins a seat into another one, which then has the shares of both and what both asked and saw. Both are seats of
+    /// these cells.
     pub fn join(&self, seat: &mut Seat, other: Seat)
         requires seat { IsSeatOf self.now seat.old }
         requires other { IsSeatOf self.now other }
@@ -114,8 +118,9 @@ impl Cells {
             .join_seat::<Unites>(&mut seat.place, place);
     }
 
-    /// Ends the cells, with the seat into which all others were joined. For each cell, whether it was asked, or
-    /// is eager and has a bound value.
+    /// Ends the cells, with the seat into which all others were joined: it is one of these cells and has the whole
+    /// share, 65,536. The answer says for each cell, by its number, whether it was asked with any seat, or is eager and
+    /// has a bound value.
     pub fn close(self, seat: Seat) -> Vec<bool>
         requires seat { IsSeatOf self seat }
         requires share { IsAlone seat }

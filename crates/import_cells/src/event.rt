@@ -2,15 +2,16 @@
 
 use crate::plan::CellPlan;
 
-/// What a worker did at a cell. A `Loaded` names the cell and the word that the load answered, an `Asked`
-/// the cell that was bound.
+/// What a worker did at a cell. A cell's number is its index in the plan.
 #[derive(Clone, Copy, Debug, PartialEq, Eq)]
 pub enum CellEvent {
+    /// It loaded the word of this cell, and found this.
     Loaded(u32, u64),
+    /// It asked for this cell to be bound.
     Asked(u32),
 }
 
-/// What clauses say of a seat: no value of it is made. A clause reads the arrays as lists, of any length.
+/// What clauses say of a seat. No value of it is made; a clause reads the arrays as lists, of any length.
 pub struct SeatView {
     /// The plan of the seat's cells.
     pub plan: [CellPlan; 0],

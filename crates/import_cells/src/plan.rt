@@ -85,7 +85,8 @@ pub(crate) fn copied_plan(alloc: Global, plan: &[CellPlan]) -> Result<Vec<CellPl
     Ok(copies)
 }
 
-/// Whether cells can be made of a plan.
+/// Whether cells can be made of a plan: it has fewer than 2^32 - 1 cells, each cell that is bound before another has a
+/// bound value, and no cell is bound before an eager one.
 pub fn is_plan(plan: &[CellPlan]) -> bool
     ensures { IsTrue result ↔ IsPlan plan.now }
 {

@@ -1,4 +1,4 @@
-//! What a worker steps on the cells with.
+//! The seat of a worker: with it the worker reads and binds the cells.
 
 use crate::event::SeatView;
 use atomic_table::Seat as Place;

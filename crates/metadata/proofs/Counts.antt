@@ -1,5 +1,6 @@
 -- Row counts, one table at a time.
-use Rattle.std.proofs.Common.{◌≡◌, ℕ, zero, suc, ◌+◌, ◌-◌, ◌*◌, ◌<◌, ◌≤◌, ◌^◌, Bool, true, false, cond, List, [], ◌∷◌, ◌++◌, length, map, get_or, Option, Some, None, refl, sym, ap, ◌∙◌, arith, inl, inr}
+use Rattle.std.proofs.Common.{◌≡◌, ℕ, zero, suc, ◌+◌, ◌-◌, ◌*◌, ◌<◌, ◌≤◌, ◌^◌, Bool, true, false, cond, List, [], ◌∷◌}
+use Rattle.std.proofs.Common.{◌++◌, length, map, get_or, Option, Some, None, refl, sym, ap, ◌∙◌, arith, inl, inr}
 use Rattle.std.specs.Prelude.{find, sum_by, count_by, ◌&&◌}
 use Rattle.std.specs.Option.{option_map}
 use Rattle.std.specs.List.{list_all, range_with_len}
@@ -18,7 +19,8 @@ range_left t n h = let left : n - t ≡ suc (n - (t + 1)) = omega arith in ap (r
 none_left : (t n : ℕ) → n ≤ t → range_with_len t (n - t) ≡ []
 none_left t n h = let left : n - t ≡ 0 = omega arith in ap (range_with_len t) left
 
-pub all_left : (test : ℕ → Bool) (t n : ℕ) → t < n → list_all test (range_with_len t (n - t)) ≡ (test t && list_all test (range_with_len (t + 1) (n - (t + 1))))
+pub all_left : (test : ℕ → Bool) (t n : ℕ) → t < n
+    → list_all test (range_with_len t (n - t)) ≡ (test t && list_all test (range_with_len (t + 1) (n - (t + 1))))
 all_left test t n h = ap (list_all test) (range_left t n h)
 
 pub all_end : (test : ℕ → Bool) (t n : ℕ) → n ≤ t → list_all test (range_with_len t (n - t)) ≡ true
@@ -83,7 +85,8 @@ step_small true n e = omega (arith, e)
 step_small false n e = omega (arith, e)
 
 -- a table's count moves the place of the next
-pub place_more : (bytes : List ℕ) (at t valid place step : ℕ) → valid ≡ valid_of bytes at → place ≡ count_at bytes at t → step ≡ size (has_table valid t)
+pub place_more : (bytes : List ℕ) (at t valid place step : ℕ) → valid ≡ valid_of bytes at → place ≡ count_at bytes at t
+    → step ≡ size (has_table valid t)
     → place + step ≡ count_at bytes at (t + 1)
 place_more bytes at t valid place step valid_is place_is step_is =
     let more = below_more (valid_of bytes at) t in
@@ -110,27 +113,32 @@ below_small valid (suc t) =
 
 -- ---- counts
 
-pub count_is : (bytes : List ℕ) (at t valid place n : ℕ) → valid ≡ valid_of bytes at → place ≡ count_at bytes at t → n ≡ cond (has_table valid t) (u32_of bytes place) 0
+pub count_is : (bytes : List ℕ) (at t valid place n : ℕ) → valid ≡ valid_of bytes at → place ≡ count_at bytes at t
+    → n ≡ cond (has_table valid t) (u32_of bytes place) 0
     → row_count bytes at t ≡ n
 unfolding row_count
 count_is bytes at t valid place n valid_is place_is n_is =
-    sym (n_is ∙ ap (λ v. cond (has_table v t) (u32_of bytes place) 0) valid_is ∙ ap (λ p. cond (has_table (valid_of bytes at) t) (u32_of bytes p) 0) place_is)
+    sym (n_is ∙ ap (λ v. cond (has_table v t) (u32_of bytes place) 0) valid_is
+    ∙ ap (λ p. cond (has_table (valid_of bytes at) t) (u32_of bytes p) 0) place_is)
 
 pub place_small : (bytes : List ℕ) (at t place : ℕ) → place ≡ count_at bytes at t → place ≤ at + 24 + 4 * t
 place_small bytes at t place e = let small = below_small (valid_of bytes at) t in omega (arith, small, e)
 
-pub counts_more : (bytes : List ℕ) (at t n : ℕ) (rows : List ℕ) → rows ≡ map (row_count bytes at) (range_with_len 0 t) → row_count bytes at t ≡ n
+pub counts_more : (bytes : List ℕ) (at t n : ℕ) (rows : List ℕ) → rows ≡ map (row_count bytes at) (range_with_len 0 t)
+    → row_count bytes at t ≡ n
     → rows ++ n ∷ [] ≡ map (row_count bytes at) (range_with_len 0 (t + 1))
 counts_more bytes at t n rows e count =
     ap (λ (is : List ℕ). is ++ n ∷ []) e ∙ ap (λ k. map (row_count bytes at) (range_with_len 0 t) ++ k ∷ []) (sym count)
     ∙ sym (map-range_with_len_more (row_count bytes at) 0 t t (omega arith))
 
-pub counts_end : (bytes : List ℕ) (at t : ℕ) (rows : List ℕ) → rows ≡ map (row_count bytes at) (range_with_len 0 t) → t ≡ 64 → rows ≡ row_counts bytes at
+pub counts_end : (bytes : List ℕ) (at t : ℕ) (rows : List ℕ) → rows ≡ map (row_count bytes at) (range_with_len 0 t)
+    → t ≡ 64 → rows ≡ row_counts bytes at
 unfolding row_counts
 counts_end bytes at t rows e is = e ∙ ap (λ n. map (row_count bytes at) (range_with_len 0 n)) is
 
 -- a count by its table
-pub count_by_table : (bytes : List ℕ) (at t : ℕ) (rows : List ℕ) → rows ≡ row_counts bytes at → t < 64 → (d : ℕ) → get_or rows t d ≡ row_count bytes at t
+pub count_by_table : (bytes : List ℕ) (at t : ℕ) (rows : List ℕ) → rows ≡ row_counts bytes at → t < 64 → (d : ℕ)
+    → get_or rows t d ≡ row_count bytes at t
 unfolding row_counts
 count_by_table bytes at t rows e h d =
     ap (λ (is : List ℕ). get_or is t d) e ∙ get_or-map-range_with_len (row_count bytes at) 0 64 t t d h (omega arith)
@@ -155,8 +163,10 @@ large_here bytes at t n e h = let here : 2 ^ 24 ≤ row_count bytes at t = omega
 pub large_not : (bytes : List ℕ) (at t n : ℕ) → row_count bytes at t ≡ n → n < 2 ^ 24 → is_large bytes at t ≡ false
 large_not bytes at t n e h = let here : row_count bytes at t < 2 ^ 24 = omega (arith, e, h) in rw (lt-ltb _ _ here) refl
 
-pub few_more : (bytes : List ℕ) (at t n : ℕ) → row_count bytes at t ≡ n → n < 2 ^ 24 → ((k : ℕ) → k < t → row_count bytes at k < 2 ^ 24) → (k : ℕ) → k < t + 1 → row_count bytes at k < 2 ^ 24
+pub few_more : (bytes : List ℕ) (at t n : ℕ) → row_count bytes at t ≡ n → n < 2 ^ 24
+    → ((k : ℕ) → k < t → row_count bytes at k < 2 ^ 24) → (k : ℕ) → k < t + 1 → row_count bytes at k < 2 ^ 24
 few_more bytes at t n e h few k k_in = elim (cases_lt k t) [
   | inl below ↦ few k below
-  | inr not_below ↦ let same : row_count bytes at k ≡ row_count bytes at t = ap (row_count bytes at) (omega arith) in omega (arith, same, e, h)
+  | inr not_below ↦
+      let same : row_count bytes at k ≡ row_count bytes at t = ap (row_count bytes at) (omega arith) in omega (arith, same, e, h)
 ]

@@ -1,5 +1,6 @@
 -- Steps over stream headers.
-use Rattle.std.proofs.Common.{◌≡◌, ℕ, suc, ◌+◌, ◌<◌, Bool, true, false, cond, List, [], ◌∷◌, Some, None, refl, sym, ap, ◌∙◌, subst, arith, length, drop, get_or, ◌==◌, inl, inr}
+use Rattle.std.proofs.Common.{◌≡◌, ℕ, suc, ◌+◌, ◌<◌, Bool, true, false, cond, List, [], ◌∷◌, Some, None, refl, sym, ap}
+use Rattle.std.proofs.Common.{◌∙◌, subst, arith, length, drop, get_or, ◌==◌, inl, inr}
 use Rattle.std.specs.Prelude.{not, ◌||◌, ◌&&◌, find}
 use Rattle.std.specs.Option.{option_map, option_map_or}
 use Rattle.std.proofs.lemmas.Bool.{cases_eq, eq-eqb, ne_eqb}
@@ -7,9 +8,11 @@ use Rattle.std.proofs.Math.Seq.{drop-cons}
 use Rattle.std.specs.Str.{bytes_eq}
 use Rattle.rtr_bytes.specs.declared.fault.Span.{Span}
 use Rattle.metadata.specs.Names.{is_taken}
-use Rattle.metadata.specs.Streams.{StreamHeader, first_cut, first_outside, first_repeated, header_at, header_named, headers_from, is_inside, next_header}
+use Rattle.metadata.specs.Streams.{StreamHeader, first_cut, first_outside, first_repeated, header_at, header_named}
+use Rattle.metadata.specs.Streams.{headers_from, is_inside, next_header}
 
-pub cut_more : (bytes : List ℕ) (end at n : ℕ) (h : StreamHeader) → header_at bytes end at ≡ Some h → first_cut bytes end at (suc n) ≡ first_cut bytes end (next_header h) n
+pub cut_more : (bytes : List ℕ) (end at n : ℕ) (h : StreamHeader) → header_at bytes end at ≡ Some h
+    → first_cut bytes end at (suc n) ≡ first_cut bytes end (next_header h) n
 unfolding first_cut
 cut_more bytes end at n h e = ap (λ o. option_map_or (λ h. first_cut bytes end (next_header h) n) o (Some at)) e
 
@@ -17,7 +20,8 @@ pub cut_here : (bytes : List ℕ) (end at n : ℕ) → header_at bytes end at �
 unfolding first_cut
 cut_here bytes end at n e = ap (λ o. option_map_or (λ h. first_cut bytes end (next_header h) n) o (Some at)) e
 
-pub headers_more : (bytes : List ℕ) (end at n : ℕ) (h : StreamHeader) → header_at bytes end at ≡ Some h → headers_from bytes end at (suc n) ≡ h ∷ headers_from bytes end (next_header h) n
+pub headers_more : (bytes : List ℕ) (end at n : ℕ) (h : StreamHeader) → header_at bytes end at ≡ Some h
+    → headers_from bytes end at (suc n) ≡ h ∷ headers_from bytes end (next_header h) n
 unfolding headers_from
 headers_more bytes end at n h e = ap (λ o. option_map_or (λ h. h ∷ headers_from bytes end (next_header h) n) o []) e
 
@@ -63,11 +67,13 @@ repeated_alike a b (h ∷ hs) e =
     ∙ ap (λ later. cond (is_taken b h.name) (Some h.at) later) (repeated_alike (h.name ∷ a) (h.name ∷ b) hs (alike_cons a b h.name e))
 
 -- no name is taken
-pub repeated_init : (names : List (List ℕ)) (hs : List StreamHeader) → ((name : List ℕ) → is_taken names name ≡ false) → first_repeated names hs ≡ first_repeated [] hs
+pub repeated_init : (names : List (List ℕ)) (hs : List StreamHeader) → ((name : List ℕ) → is_taken names name ≡ false)
+    → first_repeated names hs ≡ first_repeated [] hs
 unfolding is_taken
 repeated_init names hs none = repeated_alike names [] hs none
 
-repeated_cons : (names : List (List ℕ)) (h : StreamHeader) (hs : List StreamHeader) → first_repeated names (h ∷ hs) ≡ cond (is_taken names h.name) (Some h.at) (first_repeated (h.name ∷ names) hs)
+repeated_cons : (names : List (List ℕ)) (h : StreamHeader) (hs : List StreamHeader)
+    → first_repeated names (h ∷ hs) ≡ cond (is_taken names h.name) (Some h.at) (first_repeated (h.name ∷ names) hs)
 unfolding first_repeated
 repeated_cons names h hs = refl
 
@@ -83,13 +89,15 @@ repeated_drop names hs i h i_in is_h =
     ap (first_repeated names) (here ∙ ap (λ j. h ∷ drop j hs) next) ∙ repeated_cons names h (drop (i + 1) hs)
 
 -- a header whose name is taken
-pub repeated_here : (names : List (List ℕ)) (hs : List StreamHeader) (i : ℕ) (h : StreamHeader) → i < length hs → h ≡ get_or hs i h → is_taken names h.name ≡ true
+pub repeated_here : (names : List (List ℕ)) (hs : List StreamHeader) (i : ℕ) (h : StreamHeader) → i < length hs
+    → h ≡ get_or hs i h → is_taken names h.name ≡ true
     → first_repeated names (drop i hs) ≡ Some h.at
 repeated_here names hs i h i_in is_h taken =
     repeated_drop names hs i h i_in is_h ∙ ap (λ t. cond t (Some h.at) (first_repeated (h.name ∷ names) (drop (i + 1) hs))) taken
 
 -- a header whose name is free, and is taken then
-pub repeated_more : (names after : List (List ℕ)) (hs : List StreamHeader) (i : ℕ) (h : StreamHeader) → i < length hs → h ≡ get_or hs i h → is_taken names h.name ≡ false
+pub repeated_more : (names after : List (List ℕ)) (hs : List StreamHeader) (i : ℕ) (h : StreamHeader) → i < length hs
+    → h ≡ get_or hs i h → is_taken names h.name ≡ false
     → ((other : List ℕ) → is_taken after other ≡ (bytes_eq h.name other || is_taken names other))
     → first_repeated after (drop (i + 1) hs) ≡ first_repeated names (drop i hs)
 repeated_more names after hs i h i_in is_h free more =
@@ -100,14 +108,18 @@ repeated_more names after hs i h i_in is_h free more =
 
 -- ---- ranges
 
-inside_cons : (span : Span) (h : StreamHeader) (hs : List StreamHeader) → first_outside span (h ∷ hs) ≡ None → (is_inside span h ≡ true) × (first_outside span hs ≡ None)
+inside_cons : (span : Span) (h : StreamHeader) (hs : List StreamHeader) → first_outside span (h ∷ hs) ≡ None
+    → (is_inside span h ≡ true) × (first_outside span hs ≡ None)
 inside_cons span h hs e =
-    let P : Bool → Type 0 = λ b. option_map (λ k. k.at) (cond (not b) (Some h) (find (λ k. not (is_inside span k)) hs)) ≡ None → (b ≡ true) × (first_outside span hs ≡ None) in
+    let P : Bool → Type 0 =
+    λ b. option_map (λ k. k.at) (cond (not b) (Some h) (find (λ k. not (is_inside span k)) hs)) ≡ None
+    → (b ≡ true) × (first_outside span hs ≡ None) in
     let both : (b : Bool) → P b = λ b. elim b as P [ true ↦ (λ f. (refl, f)) | false ↦ (λ f. absurd (let x : ⊥ = cc in x)) ] in
     both (is_inside span h) e
 
 -- a header that is found is of a stream in the metadata
-pub found_inside : (span : Span) (name : List ℕ) (hs : List StreamHeader) (h : StreamHeader) → first_outside span hs ≡ None → header_named name hs ≡ Some h → is_inside span h ≡ true
+pub found_inside : (span : Span) (name : List ℕ) (hs : List StreamHeader) (h : StreamHeader)
+    → first_outside span hs ≡ None → header_named name hs ≡ Some h → is_inside span h ≡ true
 found_inside span name [] h none e = absurd (let x : ⊥ = cc in x)
 found_inside span name (k ∷ hs) h none e =
     let parts = inside_cons span k hs none in

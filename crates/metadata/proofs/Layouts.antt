@@ -1,5 +1,6 @@
 -- The columns and the tables by place.
-use Rattle.std.proofs.Common.{◌≡◌, ℕ, zero, suc, ◌+◌, ◌*◌, ◌<◌, ◌≤◌, ◌==◌, Bool, true, false, cond, List, [], ◌∷◌, ◌++◌, length, drop, get_or, map, refl, sym, ap, ◌∙◌, arith, append_assoc, append-nil, drop-cons}
+use Rattle.std.proofs.Common.{◌≡◌, ℕ, zero, suc, ◌+◌, ◌*◌, ◌<◌, ◌≤◌, ◌==◌, Bool, true, false, cond, List, [], ◌∷◌, ◌++◌}
+use Rattle.std.proofs.Common.{length, drop, get_or, map, refl, sym, ap, ◌∙◌, arith, append_assoc, append-nil, drop-cons}
 use Rattle.std.specs.Prelude.{sum_by, filter}
 use Rattle.std.specs.List.{range_with_len}
 use Rattle.std.proofs.lemmas.List.{drop_all}
@@ -23,7 +24,8 @@ pub table_at_more : (layout : Layout) (n : ℕ) → table_at layout (n + 1) ≡ 
 unfolding table_at
 table_at_more layout n =
     let more : n + 1 ≡ suc n = omega arith in
-    let grown = ap (λ k. sum_by (table_size layout) (range_with_len 0 k)) more ∙ ap (λ l. sum_by (table_size layout) l) (range_more 0 n) ∙ sum_by_push (table_size layout) (range_with_len 0 n) (0 + n) in
+    let grown = ap (λ k. sum_by (table_size layout) (range_with_len 0 k)) more
+    ∙ ap (λ l. sum_by (table_size layout) l) (range_more 0 n) ∙ sum_by_push (table_size layout) (range_with_len 0 n) (0 + n) in
     let here : table_size layout (0 + n) ≡ table_size layout n = ap (table_size layout) (omega arith) in
     omega (arith, grown, here)
 
@@ -41,17 +43,22 @@ table_at_up layout (suc k) n =
 
 -- ---- the columns of a row one after the other
 
-kinds_or : (b : Bool) (c : Column) (rest : List Column) → map (λ c. c.kind) (cond b (c ∷ rest) rest) ≡ cond b (c.kind ∷ map (λ c. c.kind) rest) (map (λ c. c.kind) rest)
+kinds_or : (b : Bool) (c : Column) (rest : List Column)
+    → map (λ c. c.kind) (cond b (c ∷ rest) rest) ≡ cond b (c.kind ∷ map (λ c. c.kind) rest) (map (λ c. c.kind) rest)
 kinds_or true c rest = refl
 kinds_or false c rest = refl
 
 columns_left : (columns : List Column) (i table : ℕ) (d : Column) → i < length columns →
-    columns_in (drop i columns) table ≡ cond (table_number (get_or columns i d).table == table) ((get_or columns i d).kind ∷ columns_in (drop (i + 1) columns) table) (columns_in (drop (i + 1) columns) table)
+    columns_in (drop i columns) table
+    ≡ cond (table_number (get_or columns i d).table == table)
+    ((get_or columns i d).kind ∷ columns_in (drop (i + 1) columns) table) (columns_in (drop (i + 1) columns) table)
 columns_left columns i table d lt =
     let next : suc i ≡ i + 1 = omega arith in
     ap (λ l. columns_in l table) (drop-cons columns i d lt)
-    ∙ kinds_or (table_number (get_or columns i d).table == table) (get_or columns i d) (filter (λ c. table_number c.table == table) (drop (suc i) columns))
-    ∙ ap (λ k. cond (table_number (get_or columns i d).table == table) ((get_or columns i d).kind ∷ columns_in (drop k columns) table) (columns_in (drop k columns) table)) next
+    ∙ kinds_or (table_number (get_or columns i d).table == table) (get_or columns i d)
+    (filter (λ c. table_number c.table == table) (drop (suc i) columns))
+    ∙ ap (λ k. cond (table_number (get_or columns i d).table == table)
+    ((get_or columns i d).kind ∷ columns_in (drop k columns) table) (columns_in (drop k columns) table)) next
 
 -- some columns of a row and their size, and what is left of it
 pub record Rowed (layout : Layout) (columns : List Column) (table i : ℕ) (list : List ColumnLayout) (size : ℕ) : Type 0 where
@@ -62,10 +69,13 @@ pub record Rowed (layout : Layout) (columns : List Column) (table i : ℕ) (list
 pub rowed_none : (layout : Layout) (columns : List Column) (table : ℕ) → Rowed layout columns table 0 [] 0
 rowed_none layout columns table = record { list_is = refl; size_is = omega arith; few = omega arith }
 
-pub rowed_other : (layout : Layout) (columns : List Column) (table i : ℕ) (list : List ColumnLayout) (size : ℕ) (d : Column) → i < length columns → (table_number (get_or columns i d).table == table) ≡ false → Rowed layout columns table i list size → Rowed layout columns table (i + 1) list size
+pub rowed_other : (layout : Layout) (columns : List Column) (table i : ℕ) (list : List ColumnLayout) (size : ℕ)
+    (d : Column) → i < length columns → (table_number (get_or columns i d).table == table) ≡ false
+    → Rowed layout columns table i list size → Rowed layout columns table (i + 1) list size
 rowed_other layout columns table i list size d lt other r =
     let kinds = columns_in (drop (i + 1) columns) table in
-    let left : columns_in (drop i columns) table ≡ kinds = columns_left columns i table d lt ∙ ap (λ b. cond b ((get_or columns i d).kind ∷ kinds) kinds) other in
+    let left : columns_in (drop i columns) table ≡ kinds = columns_left columns i table d lt
+    ∙ ap (λ b. cond b ((get_or columns i d).kind ∷ kinds) kinds) other in
     let size_is = r.size_is in
     let left_size = ap (size_of_columns layout) left in
     let few = r.few in
@@ -82,25 +92,34 @@ width_few layout kind = bound (is_wide layout kind)
     bound true = omega arith
     bound false = omega arith
 
-pub rowed_more : (layout : Layout) (columns : List Column) (table i : ℕ) (list : List ColumnLayout) (size : ℕ) (d : Column) → i < length columns → (table_number (get_or columns i d).table == table) ≡ true → Rowed layout columns table i list size → Rowed layout columns table (i + 1) (list ++ record { kind = (get_or columns i d).kind; wide = is_wide layout (get_or columns i d).kind; offset = size } ∷ []) (size + width_of layout (get_or columns i d).kind)
+pub rowed_more : (layout : Layout) (columns : List Column) (table i : ℕ) (list : List ColumnLayout) (size : ℕ)
+    (d : Column) → i < length columns → (table_number (get_or columns i d).table == table) ≡ true
+    → Rowed layout columns table i list size
+    → Rowed layout columns table (i + 1)
+    (list ++ record { kind = (get_or columns i d).kind; wide = is_wide layout (get_or columns i d).kind; offset = size }
+    ∷ []) (size + width_of layout (get_or columns i d).kind)
 rowed_more layout columns table i list size d lt same r =
     let kinds = columns_in (drop (i + 1) columns) table in
     let kind = (get_or columns i d).kind in
-    let left : columns_in (drop i columns) table ≡ kind ∷ kinds = columns_left columns i table d lt ∙ ap (λ b. cond b (kind ∷ kinds) kinds) same in
+    let left : columns_in (drop i columns) table ≡ kind ∷ kinds = columns_left columns i table d lt
+    ∙ ap (λ b. cond b (kind ∷ kinds) kinds) same in
     let size_is = r.size_is in
     let left_size = ap (size_of_columns layout) left ∙ sum_by-cons (λ w. w) (width_of layout kind) (map (width_of layout) kinds) in
     let few = r.few in
     let narrow = width_few layout kind in
     record {
       list_is =
-          append_assoc list (record { kind = kind; wide = is_wide layout kind; offset = size } ∷ []) (column_layouts layout (size + width_of layout kind) kinds)
+          append_assoc list (record { kind = kind; wide = is_wide layout kind; offset = size } ∷ [])
+          (column_layouts layout (size + width_of layout kind) kinds)
           ∙ ap (λ ks. list ++ column_layouts layout size ks) (sym left)
           ∙ r.list_is;
       size_is = omega (arith, size_is, left_size);
       few = omega (arith, few, narrow);
     }
 
-pub rowed_all : (layout : Layout) (columns : List Column) (table i : ℕ) (list : List ColumnLayout) (size : ℕ) → length columns ≤ i → Rowed layout columns table i list size → (list ≡ column_layouts layout 0 (columns_in columns table)) × (size ≡ size_of_columns layout (columns_in columns table))
+pub rowed_all : (layout : Layout) (columns : List Column) (table i : ℕ) (list : List ColumnLayout) (size : ℕ)
+    → length columns ≤ i → Rowed layout columns table i list size
+    → (list ≡ column_layouts layout 0 (columns_in columns table)) × (size ≡ size_of_columns layout (columns_in columns table))
 rowed_all layout columns table i list size all r =
     let none : columns_in (drop i columns) table ≡ [] = ap (λ l. columns_in l table) (drop_all i columns all) in
     let size_is = r.size_is in

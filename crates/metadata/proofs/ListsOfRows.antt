@@ -10,25 +10,33 @@ pub rows_in : (bytes : List ℕ) (layout : Layout) (table : ℕ) → length (tab
 unfolding table_of
 rows_in bytes layout table = length-map-range_with_len (row_of bytes layout table) 1 (rows_of layout table)
 
-row_in : (bytes : List ℕ) (layout : Layout) (table row : ℕ) → row < rows_of layout table → get_or (table_of bytes layout table) row [] ≡ row_of bytes layout table (row + 1)
+row_in : (bytes : List ℕ) (layout : Layout) (table row : ℕ) → row < rows_of layout table
+    → get_or (table_of bytes layout table) row [] ≡ row_of bytes layout table (row + 1)
 unfolding table_of
-row_in bytes layout table row lt = get_or-map-range_with_len (row_of bytes layout table) 1 (rows_of layout table) row (row + 1) [] lt (omega arith)
+row_in bytes layout table row lt =
+    get_or-map-range_with_len (row_of bytes layout table) 1 (rows_of layout table) row (row + 1) [] lt (omega arith)
 
-pub columns_in_row : (bytes : List ℕ) (layout : Layout) (table row : ℕ) → row < rows_of layout table → length (get_or (table_of bytes layout table) row []) ≡ length (columns_of table)
+pub columns_in_row : (bytes : List ℕ) (layout : Layout) (table row : ℕ) → row < rows_of layout table
+    → length (get_or (table_of bytes layout table) row []) ≡ length (columns_of table)
 columns_in_row bytes layout table row lt =
-    ap (λ (l : List ℕ). length l) (row_in bytes layout table row lt) ∙ length-map-range_with_len (number_of bytes layout table (row + 1)) 0 (length (columns_of table))
+    ap (λ (l : List ℕ). length l) (row_in bytes layout table row lt)
+    ∙ length-map-range_with_len (number_of bytes layout table (row + 1)) 0 (length (columns_of table))
 
-there : (bytes : List ℕ) (layout : Layout) (table row column : ℕ) → 1 ≤ row → row ≤ rows_of layout table → column < length (columns_of table) → column_of bytes layout table row column ≡ Some (number_of bytes layout table row column)
+there : (bytes : List ℕ) (layout : Layout) (table row column : ℕ) → 1 ≤ row → row ≤ rows_of layout table
+    → column < length (columns_of table) → column_of bytes layout table row column ≡ Some (number_of bytes layout table row column)
 unfolding column_of
 there bytes layout table row column first last below =
     let a : nat_le 1 row ≡ true = le-leb _ _ first in
     let b : nat_le row (rows_of layout table) ≡ true = le-leb _ _ last in
     let d : nat_lt column (length (columns_of table)) ≡ true = lt-ltb _ _ below in
-    ap (λ x. cond (x && (nat_le row (rows_of layout table) && nat_lt column (length (columns_of table)))) (Some (number_of bytes layout table row column)) None) a
+    ap (λ x. cond (x && (nat_le row (rows_of layout table) && nat_lt column (length (columns_of table))))
+    (Some (number_of bytes layout table row column)) None) a
     ∙ ap (λ x. cond (x && nat_lt column (length (columns_of table))) (Some (number_of bytes layout table row column)) None) b
     ∙ ap (λ x. cond x (Some (number_of bytes layout table row column)) None) d
 
-pub column_in : (bytes : List ℕ) (layout : Layout) (table row column : ℕ) → row < rows_of layout table → column < length (columns_of table) → column_of bytes layout table (row + 1) column ≡ Some (get_or (get_or (table_of bytes layout table) row []) column 0)
+pub column_in : (bytes : List ℕ) (layout : Layout) (table row column : ℕ) → row < rows_of layout table
+    → column < length (columns_of table)
+    → column_of bytes layout table (row + 1) column ≡ Some (get_or (get_or (table_of bytes layout table) row []) column 0)
 column_in bytes layout table row column lt below =
     there bytes layout table (row + 1) column (omega arith) (omega arith) below
     ∙ ap Some (sym (ap (λ (l : List ℕ). get_or l column 0) (row_in bytes layout table row lt)

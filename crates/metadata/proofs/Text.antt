@@ -1,12 +1,15 @@
 -- Where a text begins, by the places after it.
-use Rattle.std.proofs.Common.{◌≡◌, ℕ, suc, ◌+◌, ◌<◌, ◌≤◌, ◌==◌, inl, inr, Bool, true, false, not, cond, ◌&&◌, List, [], ◌∷◌, ◌++◌, length, take, drop, get_or, Some, None, refl, sym, ap, ◌∙◌, subst, arith, append_assoc, drop-cons, length-append}
+use Rattle.std.proofs.Common.{◌≡◌, ℕ, suc, ◌+◌, ◌<◌, ◌≤◌, ◌==◌, inl, inr, Bool, true, false, not, cond, ◌&&◌, List, []}
+use Rattle.std.proofs.Common.{◌∷◌, ◌++◌, length, take, drop, get_or, Some, None, refl, sym, ap, ◌∙◌, subst, arith}
+use Rattle.std.proofs.Common.{append_assoc, drop-cons, length-append}
 use Rattle.std.specs.Prelude.{◌||◌, is_some, position, nat_lt}
 use Rattle.std.specs.Char.{IsScalar, len_utf8}
 use Rattle.std.specs.List.{list_any, position_or_len}
 use Rattle.std.specs.Option.{option_and_then}
 use Rattle.std.specs.Str.{IsUtf8, is_utf8}
 use Rattle.std.proofs.lemmas.Bool.{and_from, and_parts, cases_Bool, cases_eq, cases_lt, eq-eqb, le-ltb, lt-ltb, ne_eqb, or_cases}
-use Rattle.std.proofs.lemmas.Str.{IsUtf8-append, IsUtf8-encode, IsUtf8-from_is_utf8, IsUtf8-nil, char_from_byte, encode_ascii, is_utf8-from_IsUtf8, len_utf8_bounds, length-encode}
+use Rattle.std.proofs.lemmas.Str.{IsUtf8-append, IsUtf8-encode, IsUtf8-from_is_utf8, IsUtf8-nil, char_from_byte}
+use Rattle.std.proofs.lemmas.Str.{encode_ascii, is_utf8-from_IsUtf8, len_utf8_bounds, length-encode}
 use Rattle.std.proofs.lemmas.List.{drop_all, take-append-drop}
 use lib.Utf8.{encode, encodes, scalar, scalars, low_scalar}
 use Rattle.metadata.specs.Heaps.{text_in, text_of}
@@ -71,7 +74,13 @@ split_of (x ∷ xs) h = elim (cases_eq x 0) [
       let other = ne_eqb x 0 ne in
       let step = place_step x xs other in
       let ih = split_of xs (omega (arith, step)) in
-      record { text = x ∷ ih.text; rest = ih.rest; split = ap (λ l. x ∷ l) ih.split; nonzero = any_step x ih.text other ih.nonzero; place = step ∙ (let p = ih.place in omega (arith, p)) }
+      record {
+        text = x ∷ ih.text;
+        rest = ih.rest;
+        split = ap (λ l. x ∷ l) ih.split;
+        nonzero = any_step x ih.text other ih.nonzero;
+        place = step ∙ (let p = ih.place in omega (arith, p));
+      }
 ]
 
 place_of : (text rest : List ℕ) → list_any is_zero text ≡ false → position_or_len is_zero (text ++ 0 ∷ rest) ≡ length text
@@ -112,13 +121,15 @@ text_at bytes n e lt =
 
 no_text : (bytes : List ℕ) → length bytes ≤ position_or_len is_zero bytes → is_some (text_in bytes) ≡ false
 unfolding text_in
-no_text bytes ge = ap (λ b. is_some (option_and_then (λ n. text_of (take n bytes)) (cond b (Some (position_or_len is_zero bytes)) None))) (le-ltb _ _ ge)
+no_text bytes ge =
+    ap (λ b. is_some (option_and_then (λ n. text_of (take n bytes)) (cond b (Some (position_or_len is_zero bytes)) None))) (le-ltb _ _ ge)
 
 has_text : (bytes : List ℕ) → is_some (text_in bytes) ≡ true → HasText bytes
 has_text bytes some = elim (cases_lt (position_or_len is_zero bytes) (length bytes)) [
   | inl lt ↦
       let s = split_of bytes lt in
-      let front : take (position_or_len is_zero bytes) bytes ≡ s.text = ap (λ n. take n bytes) s.place ∙ ap (λ l. take (length s.text) l) s.split ∙ take_front s.text (0 ∷ s.rest) in
+      let front : take (position_or_len is_zero bytes) bytes ≡ s.text = ap (λ n. take n bytes) s.place
+      ∙ ap (λ l. take (length s.text) l) s.split ∙ take_front s.text (0 ∷ s.rest) in
       let utf8 : is_utf8 s.text ≡ true = ap is_utf8 (sym front) ∙ sym (text_at bytes (position_or_len is_zero bytes) refl lt) ∙ some in
       record { text = s.text; rest = s.rest; split = s.split; nonzero = s.nonzero; utf8 = IsUtf8-from_is_utf8 s.text utf8 }
   | inr ge ↦ let none = no_text bytes ge in absurd (let x : ⊥ = cc in x)
@@ -126,7 +137,8 @@ has_text bytes some = elim (cases_lt (position_or_len is_zero bytes) (length byt
 
 text_is_in : (bytes : List ℕ) → HasText bytes → is_some (text_in bytes) ≡ true
 text_is_in bytes t =
-    let place : position_or_len is_zero bytes ≡ length t.text = ap (λ l. position_or_len is_zero l) t.split ∙ place_of t.text t.rest t.nonzero in
+    let place : position_or_len is_zero bytes ≡ length t.text = ap (λ l. position_or_len is_zero l) t.split
+    ∙ place_of t.text t.rest t.nonzero in
     let len = ap length t.split ∙ length-append t.text (0 ∷ t.rest) in
     let front : take (length t.text) bytes ≡ t.text = ap (λ l. take (length t.text) l) t.split ∙ take_front t.text (0 ∷ t.rest) in
     text_at bytes (length t.text) place (omega (arith, len)) ∙ ap is_utf8 front ∙ is_utf8-from_IsUtf8 t.text t.utf8
@@ -173,7 +185,8 @@ record FirstChar (bytes : List ℕ) : Type 0 where
   nonzero : list_any is_zero (encode char) ≡ false
   text : HasText more
 
-first_char : (bytes : List ℕ) (t : HasText bytes) (cs : List ℕ) → scalars cs ≡ true → encodes cs ≡ t.text → 0 < length t.text → FirstChar bytes
+first_char : (bytes : List ℕ) (t : HasText bytes) (cs : List ℕ) → scalars cs ≡ true → encodes cs ≡ t.text
+    → 0 < length t.text → FirstChar bytes
 first_char bytes t [] ok e some = absurd (let n = ap length e in omega (arith, n))
 first_char bytes t (c ∷ cs) ok e some =
     let parts = and_parts (scalar c) (scalars cs) ok in
@@ -197,14 +210,17 @@ first_of_text b bytes some t = first_char (b ∷ bytes) t t.utf8.0 t.utf8.1.0 t.
 on_by_char : (b : ℕ) (bytes : List ℕ) (f : FirstChar (b ∷ bytes)) → goes_on (len_utf8 f.char) (b ∷ bytes) ≡ true
 on_by_char b bytes f =
     let size = length-encode f.char in
-    let front : take (len_utf8 f.char) (b ∷ bytes) ≡ encode f.char = ap (λ n. take n (b ∷ bytes)) (sym size) ∙ ap (λ l. take (length (encode f.char)) l) f.split ∙ take_front (encode f.char) f.more in
-    let rest : drop (len_utf8 f.char) (b ∷ bytes) ≡ f.more = ap (λ n. drop n (b ∷ bytes)) (sym size) ∙ ap (λ l. drop (length (encode f.char)) l) f.split ∙ drop_front (encode f.char) f.more in
+    let front : take (len_utf8 f.char) (b ∷ bytes) ≡ encode f.char = ap (λ n. take n (b ∷ bytes)) (sym size)
+    ∙ ap (λ l. take (length (encode f.char)) l) f.split ∙ take_front (encode f.char) f.more in
+    let rest : drop (len_utf8 f.char) (b ∷ bytes) ≡ f.more = ap (λ n. drop n (b ∷ bytes)) (sym size)
+    ∙ ap (λ l. drop (length (encode f.char)) l) f.split ∙ drop_front (encode f.char) f.more in
     and_from _ _
     (ap (λ l. is_some (text_in l)) rest ∙ text_is_in f.more f.text)
     (ap is_text front ∙ and_from _ _ (is_utf8-from_IsUtf8 (encode f.char) (IsUtf8-encode f.char f.scalar_is)) (ap not f.nonzero))
 
 pub after_zero : (b : ℕ) (bytes : List ℕ) → b ≡ 0 → is_some (text_in (b ∷ bytes)) ≡ true
-after_zero b bytes e = text_is_in (b ∷ bytes) (record { text = []; rest = bytes; split = ap (λ x. x ∷ bytes) e; nonzero = refl; utf8 = IsUtf8-nil })
+after_zero b bytes e =
+    text_is_in (b ∷ bytes) (record { text = []; rest = bytes; split = ap (λ x. x ∷ bytes) e; nonzero = refl; utf8 = IsUtf8-nil })
 
 ascii_test : (b : ℕ) → 0 < b → b < 128 → (is_utf8 (b ∷ []) && not (list_any is_zero (b ∷ []))) ≡ true
 ascii_test b some small =
@@ -249,7 +265,9 @@ not_ascii b bytes f big = elim (cases_lt f.char 128) [
     two_or_more false false = omega arith
 
     long : (c : ℕ) → nat_lt c 0x80 ≡ false → 1 < len_utf8 c
-    long c e = subst (λ b. 1 < cond b 1 (cond (nat_lt c 0x800) 2 (cond (nat_lt c 0x1_0000) 3 4))) (sym e) (two_or_more (nat_lt c 0x800) (nat_lt c 0x1_0000))
+    long c e =
+        subst (λ b. 1 < cond b 1 (cond (nat_lt c 0x800) 2 (cond (nat_lt c 0x1_0000) 3 4))) (sym e)
+        (two_or_more (nat_lt c 0x800) (nat_lt c 0x1_0000))
 
 after_lead : (b : ℕ) (bytes : List ℕ) → 127 < b → is_some (text_in (b ∷ bytes)) ≡ begins_by_lead (b ∷ bytes)
 after_lead b bytes big = same_test _ _
@@ -270,12 +288,16 @@ at_place : (heap : List ℕ) (at : ℕ) → at < length heap → drop at heap �
 at_place heap at lt = let next : suc at ≡ at + 1 = omega arith in drop-cons heap at 0 lt ∙ ap (λ k. get_or heap at 0 ∷ drop k heap) next
 
 pub begins_at_zero : (heap : List ℕ) (at : ℕ) → at < length heap → get_or heap at 0 ≡ 0 → is_some (text_in (drop at heap)) ≡ true
-begins_at_zero heap at lt zero_is = ap (λ l. is_some (text_in l)) (at_place heap at lt) ∙ after_zero (get_or heap at 0) (drop (at + 1) heap) zero_is
+begins_at_zero heap at lt zero_is =
+    ap (λ l. is_some (text_in l)) (at_place heap at lt) ∙ after_zero (get_or heap at 0) (drop (at + 1) heap) zero_is
 
-pub begins_at_ascii : (heap : List ℕ) (at : ℕ) → at < length heap → 0 < get_or heap at 0 → get_or heap at 0 < 128 → is_some (text_in (drop at heap)) ≡ is_some (text_in (drop (at + 1) heap))
-begins_at_ascii heap at lt some small = ap (λ l. is_some (text_in l)) (at_place heap at lt) ∙ after_ascii (get_or heap at 0) (drop (at + 1) heap) some small
+pub begins_at_ascii : (heap : List ℕ) (at : ℕ) → at < length heap → 0 < get_or heap at 0 → get_or heap at 0 < 128
+    → is_some (text_in (drop at heap)) ≡ is_some (text_in (drop (at + 1) heap))
+begins_at_ascii heap at lt some small =
+    ap (λ l. is_some (text_in l)) (at_place heap at lt) ∙ after_ascii (get_or heap at 0) (drop (at + 1) heap) some small
 
-pub begins_at_lead : (heap : List ℕ) (at : ℕ) → at < length heap → 127 < get_or heap at 0 → is_some (text_in (drop at heap)) ≡ begins_by_lead (drop at heap)
+pub begins_at_lead : (heap : List ℕ) (at : ℕ) → at < length heap → 127 < get_or heap at 0
+    → is_some (text_in (drop at heap)) ≡ begins_by_lead (drop at heap)
 begins_at_lead heap at lt big =
     let here = at_place heap at lt in
     ap (λ l. is_some (text_in l)) here ∙ after_lead (get_or heap at 0) (drop (at + 1) heap) big ∙ ap begins_by_lead (sym here)

@@ -1,5 +1,6 @@
 -- The checks of metadata at a range of the file, each computed from the bytes alone.
-use Rattle.std.specs.Prelude.{ℕ, zero, suc, ◌+◌, ◌-◌, ◌%◌, ◌^◌, ◌==◌, ◌&&◌, ◌||◌, not, Bool, true, false, List, [], ◌∷◌, ◌++◌, length, get_or, find, Option, Some, None, nat_le, nat_lt, is_some}
+use Rattle.std.specs.Prelude.{ℕ, zero, suc, ◌+◌, ◌-◌, ◌%◌, ◌^◌, ◌==◌, ◌&&◌, ◌||◌, not, Bool, true, false, List, [], ◌∷◌}
+use Rattle.std.specs.Prelude.{◌++◌, length, get_or, find, Option, Some, None, nat_le, nat_lt, is_some}
 use Rattle.std.specs.Option.{option_map}
 use Rattle.std.specs.List.{list_all, list_any, range_with_len}
 use Rattle.rtr_bytes.specs.declared.fault.Span.{Span}
@@ -10,8 +11,10 @@ use Rattle.metadata.specs.declared.schema.ColumnKind.{ColumnKind}
 use Rattle.metadata.specs.declared.schema.ColumnKind.TheVariants as columns
 use Rattle.metadata.specs.declared.schema.TheConstants.{COLUMNS}
 use Rattle.metadata.specs.Schema.{is_of, columns_of, table_number}
-use Rattle.metadata.specs.Streams.{end_of, first_cut, first_outside, first_repeated, header_named, headers_at, headers_in, stream_count, stream_of, tables_name, version_length}
-use Rattle.metadata.specs.Tables.{Layout, column_at, count_at, has_table, heap_sizes_of, layout_of, number_of, row_count, rows_of, rows_place, table_at, valid_of}
+use Rattle.metadata.specs.Streams.{end_of, first_cut, first_outside, first_repeated, header_named, headers_at}
+use Rattle.metadata.specs.Streams.{headers_in, stream_count, stream_of, tables_name, version_length}
+use Rattle.metadata.specs.Tables.{Layout, column_at, count_at, has_table, heap_sizes_of, layout_of, number_of}
+use Rattle.metadata.specs.Tables.{row_count, rows_of, rows_place, table_at, valid_of}
 use Rattle.metadata.specs.Heaps.{is_valid}
 
 -- the root
@@ -127,7 +130,8 @@ falls bytes layout table row column = nat_lt (number_of bytes layout table row c
 
 abbrev pub fallen_column : List ℕ → Layout → ℕ → ℕ → ℕ → Option ℕ
 fallen_column bytes layout table row column =
-    holds_or (not ((is_list (kind_of table column) && nat_lt 1 row) && falls bytes layout table row column)) (column_at layout table row column)
+    holds_or (not ((is_list (kind_of table column) && nat_lt 1 row) && falls bytes layout table row column))
+    (column_at layout table row column)
 
 abbrev pub column_checks : Span → List Check
 column_checks span =

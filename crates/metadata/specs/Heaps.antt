@@ -1,5 +1,6 @@
 -- The heaps of metadata (ECMA-335 II.24.2.3 and II.24.2.4), and what a column's number names.
-use Rattle.std.specs.Prelude.{ℕ, ◌+◌, ◌-◌, ◌*◌, ◌/◌, ◌%◌, ◌^◌, ◌==◌, Bool, true, List, [], length, take, drop, position, Option, Some, None, nat_le, if◌then◌else◌, is_some}
+use Rattle.std.specs.Prelude.{ℕ, ◌+◌, ◌-◌, ◌*◌, ◌/◌, ◌%◌, ◌^◌, ◌==◌, Bool, true, List, [], length, take, drop, position}
+use Rattle.std.specs.Prelude.{Option, Some, None, nat_le, if◌then◌else◌, is_some}
 use Rattle.std.specs.Option.{option_and_then}
 use Rattle.std.specs.Str.{is_utf8}
 use Rattle.rtr_bytes.specs.declared.fault.Span.{Span}
@@ -65,7 +66,8 @@ row_token layout row table = if nat_le row (rows_of layout (table_number table))
 
 -- the token that an index of a kind names: its tag is listed, and its row is at most the last of that table
 unfoldable pub coded_token : Layout → CodedKind → ℕ → Option ℕ
-coded_token layout kind value = option_and_then (row_token layout (value / 2 ^ tag_bits kind)) (tagged_table kind (value % 2 ^ tag_bits kind))
+coded_token layout kind value =
+    option_and_then (row_token layout (value / 2 ^ tag_bits kind)) (tagged_table kind (value % 2 ^ tag_bits kind))
 
 -- the same by the kind's number
 abbrev pub coded_of : Layout → ℕ → ℕ → Option ℕ

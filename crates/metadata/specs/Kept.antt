@@ -1,5 +1,6 @@
 -- What the reader keeps, to find each column without a walk.
-use Rattle.std.specs.Prelude.{◌≡◌, ◌≤◌, ◌^◌, ℕ, ◌+◌, ◌-◌, ◌*◌, ◌&&◌, Bool, nat_lt, unwrap_or, List, [], ◌∷◌, length, map, sum_by, Option, Some, None, Result, Ok, Err, slice_get}
+use Rattle.std.specs.Prelude.{◌≡◌, ◌≤◌, ◌^◌, ℕ, ◌+◌, ◌-◌, ◌*◌, ◌&&◌, Bool, nat_lt, unwrap_or, List, [], ◌∷◌, length}
+use Rattle.std.specs.Prelude.{map, sum_by, Option, Some, None, Result, Ok, Err, slice_get}
 use Rattle.rtr_bytes.specs.declared.fault.Fault.{Fault}
 use Rattle.rtr_bytes.specs.declared.fault.Span.{Span}
 use Rattle.rtr_bytes.specs.Checks.{fault_or, holds_or}
@@ -48,7 +49,8 @@ one_fault stream layout = fault_or 41 (holds_or (has_one_assembly layout) (strea
 
 -- the first fault of the columns
 abbrev pub column_fault : List ℕ → Layout → Option Fault
-column_fault bytes layout = fault_or 42 (first_column layout (bad_column bytes layout)) (fault_or 43 (first_column layout (fallen_column bytes layout)) None)
+column_fault bytes layout =
+    fault_or 42 (first_column layout (bad_column bytes layout)) (fault_or 43 (first_column layout (fallen_column bytes layout)) None)
 
 -- and of both and the columns
 abbrev pub layout_fault : List ℕ → Span → Layout → Option Fault

@@ -1,5 +1,6 @@
 -- The metadata root and its stream headers (ECMA-335 II.24.2.1 and II.24.2.2). The metadata is a range of the file's bytes.
-use Rattle.std.specs.Prelude.{ℕ, zero, suc, ◌+◌, ◌-◌, ◌*◌, ◌/◌, ◌==◌, not, Bool, List, [], ◌∷◌, length, take, drop, min, find, position, Option, Some, None, nat_le, if◌then◌else◌}
+use Rattle.std.specs.Prelude.{ℕ, zero, suc, ◌+◌, ◌-◌, ◌*◌, ◌/◌, ◌==◌, not, Bool, List, [], ◌∷◌, length, take, drop, min}
+use Rattle.std.specs.Prelude.{find, position, Option, Some, None, nat_le, if◌then◌else◌}
 use Rattle.std.specs.Option.{option_map, option_map_or, option_and_then}
 use Rattle.std.specs.Str.{bytes_eq}
 use Rattle.rtr_bytes.specs.declared.fault.Span.{Span}

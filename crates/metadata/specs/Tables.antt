@@ -1,5 +1,7 @@
 -- The tables of metadata (ECMA-335 II.24.2.6), each column of each row by its place.
-use Rattle.std.specs.Prelude.{ℕ, ◌+◌, ◌-◌, ◌*◌, ◌/◌, ◌%◌, ◌^◌, ◌==◌, ◌&&◌, Bool, true, false, not, List, length, map, take, get_or, filter, count_by, sum_by, Option, Some, None, nat_lt, nat_le, if◌then◌else◌, unwrap_or, slice_index}
+use Rattle.std.specs.Prelude.{ℕ, ◌+◌, ◌-◌, ◌*◌, ◌/◌, ◌%◌, ◌^◌, ◌==◌, ◌&&◌, Bool, true, false, not, List, length, map}
+use Rattle.std.specs.Prelude.{take, get_or, filter, count_by, sum_by, Option, Some, None, nat_lt, nat_le, if◌then◌else◌}
+use Rattle.std.specs.Prelude.{unwrap_or, slice_index}
 use Rattle.std.specs.List.{list_all, range_with_len}
 use Rattle.rtr_bytes.specs.declared.fault.Span.{Span}
 use Rattle.rtr_bytes.specs.Field.{field_at, u32_of}
@@ -85,7 +87,8 @@ is_wide_row layout table = nat_le (2 ^ 16) (rows_of layout (table_number table))
 
 abbrev pub is_short_in : List CodedTable → Layout → CodedKind → Bool
 is_short_in tagged layout kind =
-    list_all (λ t. nat_lt (rows_of layout (table_number t.table)) (2 ^ (16 - tag_bits kind))) (filter (λ t. kind_number t.kind == kind_number kind) tagged)
+    list_all (λ t. nat_lt (rows_of layout (table_number t.table)) (2 ^ (16 - tag_bits kind)))
+    (filter (λ t. kind_number t.kind == kind_number kind) tagged)
 
 unfoldable pub is_short : Layout → CodedKind → Bool
 is_short layout kind = is_short_in CODED_TABLES layout kind
@@ -143,4 +146,10 @@ abbrev pub has_column : Layout → ℕ → ℕ → ℕ → Bool
 has_column layout table row column = nat_le 1 row && (nat_le row (rows_of layout table) && nat_lt column (length (columns_of table)))
 
 unfoldable pub column_of : List ℕ → Layout → ℕ → ℕ → ℕ → Option ℕ
-column_of bytes layout table row column = if has_column layout table row column then Some (number_of bytes layout table row column) else None
+column_of bytes layout table row column =
+    if has_column layout table row column then Some (number_of bytes layout table row column) else None
+
+-- its place in the file
+unfoldable pub column_place : Layout → ℕ → ℕ → ℕ → Option ℕ
+column_place layout table row column =
+    if has_column layout table row column then Some (column_at layout table row column) else None

@@ -8,7 +8,7 @@ ghost use Rattle.metadata.specs.Kept.{layout_fault, one_fault};
 ghost use Rattle.metadata.specs.Schema.{kind_in, kind_numbered};
 ghost use Rattle.metadata.specs.Steps.{AreStreams, IsHeader, IsInside};
 ghost use Rattle.metadata.specs.Streams.{end_of};
-ghost use Rattle.metadata.specs.Tables.{column_of, layout_of, rows_of};
+ghost use Rattle.metadata.specs.Tables.{column_of, column_place, layout_of, rows_of};
 
 use crate::check::Check;
 use crate::header::TablesHeader;
@@ -69,9 +69,9 @@ fn kind_numbered(number: u8) -> Option<CodedKind>
 }
 
 impl Metadata {
-    /// The metadata at a range of a file's bytes, of which there are at most 2^31; the range is empty or in the bytes.
-    /// `Malformed` names the first of the checks 30 to 43 that fails, with its place. Its time is linear in the bytes and
-    /// the rows.
+    /// The metadata at a range of a file's bytes, of which there are at most 2^31; the range is empty or in the bytes
+    /// (ECMA-335 II.22 and II.24.2). `Malformed` names the first of the checks 30 to 43 that fails, with its file
+    /// offset; `NoMemory` comes where memory is refused.
     pub fn read(alloc: Global, bytes: &[u8], span: Span) -> Result<Metadata, ReadRefusal>
         requires small { length bytes.now ≤ 2 ^ 31 }
         requires inside { IsInside span (length bytes.now) }
@@ -110,8 +110,8 @@ impl Metadata {
         Ok(Metadata { places, tables })
     }
 
-    /// The metadata by its streams and the header of the tables' stream: `Malformed` names the first of the checks 40 to
-    /// 43 that fails, with its place.
+    /// The metadata by its streams and the header of the tables' stream: `Malformed` names the first of the checks 40
+    /// to 43 that fails, with its place.
     fn of_streams(
         alloc: Global,
         bytes: &[u8],
@@ -131,15 +131,16 @@ impl Metadata {
         Metadata::of_places(alloc, bytes, Places::of(streams, header), stream)
     }
 
-    /// How many rows a table has; 0 where there is no such table.
+    /// How many rows a table has, by the table's number (ECMA-335 II.22); 0 where there is no such table.
     pub fn rows(&self, table: u8) -> u32
         ensures { result ≡ rows_of self.now table }
     {
         self.places.rows(table)
     }
 
-    /// The number in a column of a row: rows count from 1, columns from 0. `None` exactly where there is no such row or
-    /// column. It takes constant time.
+    /// The number in a column of a row of a table (ECMA-335 II.22): tables by their number, rows from 1, columns from
+    /// 0. `None` exactly where there is no such row or column. `bytes` are the file's, at most 2^31; a number that
+    /// passes their end is 0.
     pub fn column(&self, bytes: &[u8], table: u8, row: u32, column: u8) -> Option<u32>
         requires { length bytes.now ≤ 2 ^ 31 }
         ensures { result ≡ column_of bytes.now self.now table row column }
@@ -152,23 +153,38 @@ impl Metadata {
         Some(column.number_at(bytes, table.row_at(row) + column.offset))
     }
 
-    /// The token that a coded index of a kind names, where the kinds have the numbers 0 to 12 (ECMA-335 II.24.2.6).
-    /// `None` exactly where there is no such kind, its tag is not listed, or the table has no such row; row 0 is always
-    /// there.
+    /// The file offset of a column of a row: rows count from 1, columns from 0. `None` exactly where there is no such row or
+    /// column. It takes constant time.
+    pub fn column_place(&self, table: u8, row: u32, column: u8) -> Option<u32>
+        ensures { result ≡ column_place self.now table row column }
+    {
+        let table = nth_table(&self.tables, table)?;
+        let column = nth_column(&table.row.columns, column)?;
+        if row == 0 || row > table.rows {
+            return None;
+        }
+        Some(table.row_at(row) + column.offset)
+    }
+
+    /// The token that a coded index of a kind names: the table's number above 24 bits of the row (ECMA-335 II.24.2.6).
+    /// The kinds have the numbers of [`CodedKind`]. `None` exactly where there is no such kind, its tag is not listed,
+    /// or the table has no such row; row 0 is always there.
     pub fn coded(&self, kind: u8, value: u32) -> Option<u32>
         ensures { result ≡ coded_of self.now kind value }
     {
         self.places.coded(kind_numbered(kind)?, value)
     }
 
-    /// The text at an offset of `#Strings`; at 0 it is empty. `None` exactly where no UTF-8 that ends with a zero is there.
+    /// The text at an offset of `#Strings` (ECMA-335 II.24.2.3), without the zero that ends it; at 0 it is empty.
+    /// `None` exactly where no UTF-8 that ends with a zero is there.
     pub fn string<'a>(&self, bytes: &'a [u8], at: u32) -> Option<&'a str>
         ensures { option_copied result ≡ string_of bytes.now self.now at }
     {
         self.places.string(bytes, at)
     }
 
-    /// The blob at an offset of `#Blob`; at 0 it is empty. `None` exactly where no whole blob is there.
+    /// The bytes of the blob at an offset of `#Blob`, without its length (ECMA-335 II.24.2.4); at 0 it is empty. `None`
+    /// exactly where no whole blob is there. `bytes` are the file's, at most 2^31.
     pub fn blob<'a>(&self, bytes: &'a [u8], at: u32) -> Option<&'a [u8]>
         requires { length bytes.now ≤ 2 ^ 31 }
         ensures { option_copied result ≡ blob_of bytes.now self.now at }
@@ -176,8 +192,8 @@ impl Metadata {
         self.places.blob(bytes, at)
     }
 
-    /// The UTF-16 bytes of the user string at an offset of `#US`, without its last byte. `None` exactly where no whole
-    /// blob of odd length is there.
+    /// The UTF-16 bytes of the user string at an offset of `#US`, without its length and its last byte (ECMA-335
+    /// II.24.2.4). `None` exactly where no whole blob of odd length is there. `bytes` are the file's, at most 2^31.
     pub fn user_string<'a>(&self, bytes: &'a [u8], at: u32) -> Option<&'a [u8]>
         requires { length bytes.now ≤ 2 ^ 31 }
         ensures { option_copied result ≡ user_string_of bytes.now self.now at }

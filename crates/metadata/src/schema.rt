@@ -1,6 +1,6 @@
 //! The tables of metadata and their columns (ECMA-335 II.22), and the kinds of coded indexes (II.24.2.6).
 //!
-//! [`COLUMNS`] and [`CODED_TABLES`] are the one place where they stand: the definitions and the code read these.
+//! [`COLUMNS`] and [`CODED_TABLES`] are their only lists: the definitions and the code read both.
 
 ghost use Rattle.std.specs.Prelude.{◌≡◌, ◌≤◌, ◌<◌};
 ghost use Rattle.metadata.specs.Checks.{is_list};
@@ -88,7 +88,7 @@ pub enum Table {
 }
 
 impl Table {
-    /// Its number.
+    /// Its number (ECMA-335 II.22), which is below 64.
     pub fn number(self) -> u8
         ensures number { result ≡ table_number self }
         ensures few { result < 64 }
@@ -140,14 +140,14 @@ pub enum CodedKind {
 }
 
 impl CodedKind {
-    /// Its number.
+    /// Its number, from 0 to 12.
     pub fn number(self) -> u8
         ensures { result ≡ kind_number self }
     {
         self as u8
     }
 
-    /// How many of the low bits of an index are its tag.
+    /// How many of the low bits of an index are its tag (ECMA-335 II.24.2.6): 1, 2, 3 or 5.
     pub fn tag_bits(self) -> u8
         ensures bits { result ≡ tag_bits self }
         ensures few { result ≤ 5 }
@@ -169,7 +169,7 @@ impl CodedKind {
     }
 }
 
-/// What a column's number is.
+/// What a column's number is (ECMA-335 II.22).
 #[derive(Clone, Copy, Debug, PartialEq, Eq)]
 pub enum ColumnKind {
     /// A number of two bytes.
@@ -266,7 +266,7 @@ macro_rules! tagged {
     };
 }
 
-/// The kinds of coded indexes.
+/// The kinds of coded indexes, by their numbers.
 pub const CODED_KINDS: [CodedKind; 13] = [
     CodedKind::TypeDefOrRef,
     CodedKind::HasConstant,
@@ -283,7 +283,7 @@ pub const CODED_KINDS: [CodedKind; 13] = [
     CodedKind::TypeOrMethodDef,
 ];
 
-/// The columns of all tables: by table, and then in their order.
+/// The columns of all tables (ECMA-335 II.22): by table, and then in their order.
 pub const COLUMNS: [Column; 122] = [
     column!(Module, UInt16), // Generation
     column!(Module, Heap(Strings)), // Name
@@ -409,7 +409,7 @@ pub const COLUMNS: [Column; 122] = [
     column!(GenericParamConstraint, Coded(TypeDefOrRef)), // Constraint
 ];
 
-/// The tables of the coded indexes: by kind, and then by tag.
+/// The tables of the coded indexes (ECMA-335 II.24.2.6): by kind, and then by tag.
 pub const CODED_TABLES: [CodedTable; 55] = [
     tagged!(TypeDefOrRef, 0, TypeDef),
     tagged!(TypeDefOrRef, 1, TypeRef),

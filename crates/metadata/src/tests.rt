@@ -115,8 +115,8 @@ fn reads(rt: HostRuntime) -> Result<(), Fail> {
     Ok(())
 }
 
-/// The root and two streams, the header of the tables with one row of Module, 50,000 of TypeRef and one of Assembly, and
-/// the row of Module.
+/// The root and two streams, the header of the tables with one row of Module, 50,000 of TypeRef and one of Assembly,
+/// and the row of Module.
 const MANY_ROWS: &str = "42534a420100010000000000040000007631000000000200\
 380000000a280900237e0000422809000109 3d0023537472696e677300000000\
 0000000002000100030000000100000000000000000000000100000050c3000001000000\
@@ -158,5 +158,100 @@ fn one_long_text(rt: HostRuntime) -> Result<(), Fail> {
         };
         assert_eq!(rt; answer?.as_str(), expected);
     }
+    Ok(())
+}
+
+/// Each table by its number with the kinds of its columns (ECMA-335 II.22). Then each kind of coded index with the bits
+/// of its tag and the number of the table that each tag names, in hexadecimal (II.24.2.6).
+const SCHEMA: &str = "
+00 Module UInt16 Heap(Strings) Heap(Guids) Heap(Guids) Heap(Guids)
+01 TypeRef Coded(ResolutionScope) Heap(Strings) Heap(Strings)
+02 TypeDef UInt32 Heap(Strings) Heap(Strings) Coded(TypeDefOrRef) List(Field) List(MethodDef)
+04 Field UInt16 Heap(Strings) Heap(Blobs)
+06 MethodDef UInt32 UInt16 UInt16 Heap(Strings) Heap(Blobs) List(Param)
+08 Param UInt16 UInt16 Heap(Strings)
+09 InterfaceImpl Row(TypeDef) Coded(TypeDefOrRef)
+0a MemberRef Coded(MemberRefParent) Heap(Strings) Heap(Blobs)
+0b Constant UInt16 Coded(HasConstant) Heap(Blobs)
+0c CustomAttribute Coded(HasCustomAttribute) Coded(CustomAttributeType) Heap(Blobs)
+0d FieldMarshal Coded(HasFieldMarshal) Heap(Blobs)
+0e DeclSecurity UInt16 Coded(HasDeclSecurity) Heap(Blobs)
+0f ClassLayout UInt16 UInt32 Row(TypeDef)
+10 FieldLayout UInt32 Row(Field)
+11 StandAloneSig Heap(Blobs)
+12 EventMap Row(TypeDef) List(Event)
+14 Event UInt16 Heap(Strings) Coded(TypeDefOrRef)
+15 PropertyMap Row(TypeDef) List(Property)
+17 Property UInt16 Heap(Strings) Heap(Blobs)
+18 MethodSemantics UInt16 Row(MethodDef) Coded(HasSemantics)
+19 MethodImpl Row(TypeDef) Coded(MethodDefOrRef) Coded(MethodDefOrRef)
+1a ModuleRef Heap(Strings)
+1b TypeSpec Heap(Blobs)
+1c ImplMap UInt16 Coded(MemberForwarded) Heap(Strings) Row(ModuleRef)
+1d FieldRVA UInt32 Row(Field)
+20 Assembly UInt32 UInt16 UInt16 UInt16 UInt16 UInt32 Heap(Blobs) Heap(Strings) Heap(Strings)
+21 AssemblyProcessor UInt32
+22 AssemblyOS UInt32 UInt32 UInt32
+23 AssemblyRef UInt16 UInt16 UInt16 UInt16 UInt32 Heap(Blobs) Heap(Strings) Heap(Strings) Heap(Blobs)
+24 AssemblyRefProcessor UInt32 Row(AssemblyRef)
+25 AssemblyRefOS UInt32 UInt32 UInt32 Row(AssemblyRef)
+26 File UInt32 Heap(Strings) Heap(Blobs)
+27 ExportedType UInt32 UInt32 Heap(Strings) Heap(Strings) Coded(Implementation)
+28 ManifestResource UInt32 UInt32 Heap(Strings) Coded(Implementation)
+29 NestedClass Row(TypeDef) Row(TypeDef)
+2a GenericParam UInt16 UInt16 Coded(TypeOrMethodDef) Heap(Strings)
+2b MethodSpec Coded(MethodDefOrRef) Heap(Blobs)
+2c GenericParamConstraint Row(GenericParam) Coded(TypeDefOrRef)
+TypeDefOrRef 2 02 01 1b --
+HasConstant 2 04 08 17 --
+HasCustomAttribute 5 06 04 01 02 08 09 0a 00 0e 17 14 11 1a 1b 20 23 26 27 28 2a 2c 2b -- -- -- -- -- -- -- -- -- --
+HasFieldMarshal 1 04 08
+HasDeclSecurity 2 02 06 20 --
+MemberRefParent 3 02 01 1a 06 1b -- -- --
+HasSemantics 1 14 17
+MethodDefOrRef 1 06 0a
+MemberForwarded 1 04 06
+Implementation 2 26 23 27 --
+CustomAttributeType 3 -- -- 06 0a -- -- -- --
+ResolutionScope 2 00 1a 23 01
+TypeOrMethodDef 1 02 06";
+
+/// The tables and the coded indexes, as the text of [`SCHEMA`]. A coded index whose row is 0 has its tag alone.
+fn schema_text(alloc: Global, metadata: &Metadata) -> Result<String, Fail> {
+    let mut text = String::new(alloc);
+    let mut last = None;
+    for column in &COLUMNS {
+        let table = column.table;
+        if last != Some(table) {
+            let line = format!(in alloc; "\n{:02x} {table:?}", table.number())?;
+            text.push_str(line.as_str())?;
+            last = Some(table);
+        }
+        let kind = format!(in alloc; " {:?}", column.kind)?;
+        text.push_str(kind.as_str())?;
+    }
+    for kind in CODED_KINDS {
+        let bits = kind.tag_bits();
+        let line = format!(in alloc; "\n{kind:?} {bits}")?;
+        text.push_str(line.as_str())?;
+        for tag in 0..1u32 << bits {
+            let table = match metadata.coded(kind.number(), tag) {
+                Some(token) => format!(in alloc; " {:02x}", token >> 24)?,
+                None => format!(in alloc; " --")?,
+            };
+            text.push_str(table.as_str())?;
+        }
+    }
+    Ok(text)
+}
+
+#[test]
+fn schema(rt: HostRuntime) -> Result<(), Fail> {
+    let alloc = rt.alloc();
+    let bytes = file_with(alloc, "")?;
+    assert!(rt; bytes.len() == 248);
+    let metadata = Metadata::read(alloc, &bytes, SPAN)?;
+    let text = schema_text(alloc, &metadata)?;
+    assert_eq!(rt; text.as_str(), SCHEMA);
     Ok(())
 }

@@ -8,3 +8,5 @@ pub mod TreeLaws
 pub mod SparseWritten
 pub mod WriterParts
 pub mod SparseWithin
+pub mod ArrayBounds
+pub mod ListBounds

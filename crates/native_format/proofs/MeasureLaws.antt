@@ -1,20 +1,14 @@
 -- The length of a sparse array, added up element by element.
-use Rattle.std.proofs.Common.{◌≡◌, ℕ, zero, suc, ◌+◌, ◌-◌, ◌*◌, ◌/◌, ◌%◌, ◌^◌, ◌<◌, ◌≤◌, min, Bool, true, false, cond, eqb, ltb, List, [], ◌∷◌, ◌++◌, length, map, get_or, set, take, drop, Option, Some, None, refl, sym, ap, subst, ◌∙◌, arith, inl, inr}
-use Rattle.std.specs.Prelude.{sum_by, unwrap_or}
+use Rattle.std.proofs.Common.{◌≡◌, ℕ, ◌+◌, ◌-◌, ◌*◌, ◌/◌, ◌%◌, ◌<◌, ◌≤◌, cond, eqb, [], ◌∷◌, ◌++◌, length, map, get_or, set, Option, Some}
+use Rattle.std.proofs.Common.{None, refl, sym, ap, subst, ◌∙◌, arith, inl, inr}
 use Rattle.std.specs.Option.{option_map}
-use Rattle.std.specs.List.{range_with_len}
-use Rattle.std.proofs.lemmas.Bool.{lt-ltb, le-ltb, eq-eqb, ne_eqb, cases_eq, cases_lt}
-use Rattle.std.proofs.lemmas.List.{length-append, length-drop, length-map, length-set, length-take-le, take_rest, get_or-map, get_or-take, get_or-drop, get_or-set_same, get_or-set_other, ext_get_or, take-map, drop-map}
-use Rattle.std.proofs.lemmas.List.FromFn.{get_or-map-range_with_len, length-map-range_with_len, map-range_with_len_more}
-use Rattle.std.proofs.lemmas.List.Sums.{sum_by-append, sum_by-cons}
-use Rattle.std.proofs.lemmas.List.Concat.{length-flat_map}
-use Rattle.native_format.specs.declared.sparse.Element.{Element}
-use Rattle.native_format.specs.Uint.{short_uint}
-use Rattle.native_format.specs.Sparse.{blocks_of, weights}
-use Rattle.native_format.specs.SparseBytes.{block, block_bytes, blocks, content_by_index, fork_number, index_bytes, joined, fork_in, slots_from, sparse_bytes, tree}
-use Rattle.native_format.specs.SparseLengths.{AreBelow, Lengths, Measure, Measures, block_at, block_len, blocks_len, capped, fork_len, front_len, length_at, length_of, lengths_from, lengths_of, node_len, sparse_len, tree_len}
-use Rattle.native_format.specs.SparseSteps.{AreSlots}
-use Rattle.native_format.proofs.SparseLengthLaws.{Lens, blocks_more, cap_block, empty_block, empty_blocks, in_block, length-block, none_at, none_blocks, past_block, same_block, same_blocks}
+use Rattle.std.proofs.lemmas.Bool.{eq-eqb, ne_eqb, cases_eq}
+use Rattle.std.proofs.lemmas.List.{length-map, length-set, get_or-map, get_or-set_same, get_or-set_other, ext_get_or}
+use Rattle.native_format.specs.Sparse.{blocks_of}
+use Rattle.native_format.specs.SparseLengths.{AreBelow, Lengths, Measure, Measures, block_at, block_len, blocks_len, capped, front_len}
+use Rattle.native_format.specs.SparseLengths.{length_at, sparse_len}
+use Rattle.native_format.proofs.SparseLengthLaws.{Lens, blocks_more, cap_block, empty_block, empty_blocks, in_block, length-block}
+use Rattle.native_format.proofs.SparseLengthLaws.{none_blocks, same_blocks}
 
 -- ---- an element more
 
@@ -45,17 +39,21 @@ measure_none m count p q r s wide none = record {
   slots_are = absent m.slots [] m.block wide none (λ i. empty_block [] 0 m.block tt (omega arith) i);
 }
   where
-    absent : (slots : Lens) (lengths : Lengths) (k : ℕ) → length slots ≡ 16 → ((i : ℕ) → get_or slots i None ≡ None) → ((i : ℕ) → get_or (block_at lengths k) i None ≡ None) → slots ≡ map (option_map capped) (block_at lengths k)
+    absent : (slots : Lens) (lengths : Lengths) (k : ℕ) → length slots ≡ 16 → ((i : ℕ) → get_or slots i None ≡ None)
+        → ((i : ℕ) → get_or (block_at lengths k) i None ≡ None) → slots ≡ map (option_map capped) (block_at lengths k)
     absent slots lengths k wide none empty =
-        ext_get_or None slots (map (option_map capped) (block_at lengths k)) (wide ∙ sym (length-map (block_at lengths k) (option_map capped) ∙ length-block lengths k))
-        (λ i lt. none i ∙ sym (get_or-map (option_map capped) (block_at lengths k) i None None (omega (arith, length-block lengths k)) ∙ ap (option_map capped) (empty i)))
+        ext_get_or None slots (map (option_map capped) (block_at lengths k))
+        (wide ∙ sym (length-map (block_at lengths k) (option_map capped) ∙ length-block lengths k))
+        (λ i lt. none i ∙ sym (get_or-map (option_map capped) (block_at lengths k) i None None (omega (arith, length-block lengths k))
+        ∙ ap (option_map capped) (empty i)))
 
 -- the blocks before a later one
 pub before_later : (m : Measure) (count : ℕ) (lengths : Lengths) (k n : ℕ) → Measures m count lengths → m.next ≤ 16 * m.block + 16
     → m.block < k → n ≡ capped (block_len m.slots)
     → capped (capped (m.before + n) + (k - m.block - 1)) ≡ capped (blocks_len lengths k)
 before_later m count lengths k n h near later n-is =
-    let slots : n ≡ capped (block_len (block_at lengths m.block)) = n-is ∙ ap (λ (s : Lens). capped (block_len s)) h.slots_are ∙ cap_block (block_at lengths m.block) in
+    let slots : n ≡ capped (block_len (block_at lengths m.block)) =
+    n-is ∙ ap (λ (s : Lens). capped (block_len s)) h.slots_are ∙ cap_block (block_at lengths m.block) in
     let all : m.block + 1 + (k - m.block - 1) ≡ k = omega arith in
     let later_blocks = empty_blocks lengths m.next (m.block + 1) (k - m.block - 1) h.none_later (omega arith) in
     omega (arith, slots, h.before_is, ap (blocks_len lengths) all, later_blocks, blocks_more lengths m.block)
@@ -68,8 +66,12 @@ measure_later old new count lengths index h order count-is next-is here later be
   count_is = count-is ∙ h.count_is;
   none_later = subst (λ (n : ℕ). AreBelow n lengths) (sym next-is) (wider lengths old.next index h.none_later order);
   before_is = before-is;
-  slots_are = ext_get_or None new.slots (map (option_map capped) (block_at lengths new.block)) (wide ∙ sym (length-map (block_at lengths new.block) (option_map capped) ∙ length-block lengths new.block))
-      (λ i lt. none i ∙ sym (get_or-map (option_map capped) (block_at lengths new.block) i None None (omega (arith, length-block lengths new.block)) ∙ ap (option_map capped) (empty_block lengths old.next new.block h.none_later later i)));
+  slots_are =
+      ext_get_or None new.slots (map (option_map capped) (block_at lengths new.block))
+      (wide ∙ sym (length-map (block_at lengths new.block) (option_map capped) ∙ length-block lengths new.block))
+      (λ i lt. none i ∙ sym (get_or-map (option_map capped) (block_at lengths new.block) i None None
+      (omega (arith, length-block lengths new.block))
+      ∙ ap (option_map capped) (empty_block lengths old.next new.block h.none_later later i)));
 }
   where
     wider : (lengths : Lengths) (limit more : ℕ) → AreBelow limit lengths → limit ≤ more → AreBelow more lengths
@@ -83,9 +85,15 @@ pub measure_put : (old new : Measure) (count : ℕ) (lengths : Lengths) (index l
     → Measures new count (lengths ++ (index, content) ∷ [])
 measure_put old new count lengths index len content h order here capped_is count-is next-is block-is before-is slots-is = record {
   count_is = count-is ∙ h.count_is;
-  none_later = subst (λ (n : ℕ). AreBelow n (lengths ++ (index, content) ∷ [])) (sym next-is) (below-append lengths old.next index content h.none_later order);
-  before_is = before-is ∙ h.before_is ∙ ap capped (same_blocks lengths (lengths ++ (index, content) ∷ []) old.block (λ i lt. sym (other_at lengths index content i (λ same. omega (arith, here, same))))) ∙ ap (λ (k : ℕ). capped (blocks_len (lengths ++ (index, content) ∷ []) k)) (sym block-is);
-  slots_are = slots-is ∙ ap (λ (s : Lens). set s (index % 16) (Some len)) h.slots_are ∙ all_slots ∙ ap (λ (k : ℕ). map (option_map capped) (block_at (lengths ++ (index, content) ∷ []) k)) (sym block-is);
+  none_later = subst (λ (n : ℕ). AreBelow n (lengths ++ (index, content) ∷ [])) (sym next-is)
+      (below-append lengths old.next index content h.none_later order);
+  before_is = before-is ∙ h.before_is
+      ∙ ap capped
+      (same_blocks lengths (lengths ++ (index, content) ∷ []) old.block
+      (λ i lt. sym (other_at lengths index content i (λ same. omega (arith, here, same))))) ∙ ap (λ (k : ℕ). capped
+      (blocks_len (lengths ++ (index, content) ∷ []) k)) (sym block-is);
+  slots_are = slots-is ∙ ap (λ (s : Lens). set s (index % 16) (Some len)) h.slots_are ∙ all_slots
+      ∙ ap (λ (k : ℕ). map (option_map capped) (block_at (lengths ++ (index, content) ∷ []) k)) (sym block-is);
 }
   where
     f : Option ℕ → Option ℕ
@@ -94,28 +102,39 @@ measure_put old new count lengths index len content h order here capped_is count
     more : Lengths
     more = lengths ++ (index, content) ∷ []
 
-    all_slots : set (map (option_map capped) (block_at lengths old.block)) (index % 16) (Some len) ≡ map (option_map capped) (block_at (lengths ++ (index, content) ∷ []) old.block)
+    all_slots : set (map (option_map capped) (block_at lengths old.block)) (index % 16) (Some len) ≡ map (option_map capped)
+        (block_at (lengths ++ (index, content) ∷ []) old.block)
     all_slots =
         let k = old.block in
         let xs = map (option_map capped) (block_at lengths k) in
         let ys = map (option_map capped) (block_at (lengths ++ (index, content) ∷ []) k) in
         let wide : length xs ≡ 16 = length-map (block_at lengths k) (option_map capped) ∙ length-block lengths k in
-        let wide' : length ys ≡ 16 = length-map (block_at (lengths ++ (index, content) ∷ []) k) (option_map capped) ∙ length-block (lengths ++ (index, content) ∷ []) k in
+        let wide' : length ys ≡ 16 =
+        length-map (block_at (lengths ++ (index, content) ∷ []) k) (option_map capped)
+        ∙ length-block (lengths ++ (index, content) ∷ []) k in
         let at : 16 * k + index % 16 ≡ index = omega (arith, here) in
         ext_get_or None (set xs (index % 16) (Some len)) ys (length-set xs (index % 16) (Some len) ∙ wide ∙ sym wide')
         (λ i lt.
         let i_lt : i < 16 = omega (arith, length-set xs (index % 16) (Some len), wide) in
         let right : get_or ys i None ≡ option_map capped (length_at (lengths ++ (index, content) ∷ []) (16 * k + i)) =
-        get_or-map (option_map capped) (block_at (lengths ++ (index, content) ∷ []) k) i None None (omega (arith, length-block (lengths ++ (index, content) ∷ []) k)) ∙ ap (option_map capped) (in_block (lengths ++ (index, content) ∷ []) k i i_lt) in
+        get_or-map (option_map capped) (block_at (lengths ++ (index, content) ∷ []) k) i None None
+        (omega (arith, length-block (lengths ++ (index, content) ∷ []) k))
+        ∙ ap (option_map capped) (in_block (lengths ++ (index, content) ∷ []) k i i_lt) in
         elim (cases_eq i (index % 16)) [
           | inl same ↦
               let place : 16 * k + i ≡ index = omega (arith, at, same) in
-              let left : get_or (set xs (index % 16) (Some len)) i None ≡ Some len = ap (λ (n : ℕ). get_or (set xs (index % 16) (Some len)) n None) same ∙ get_or-set_same xs (index % 16) (Some len) None (omega (arith, wide)) in
-              left ∙ sym (right ∙ ap (λ (n : ℕ). option_map capped (length_at (lengths ++ (index, content) ∷ []) n)) place ∙ ap (option_map capped) (here_at lengths old.next index content h.none_later order) ∙ ap (λ (n : ℕ). Some n) (sym capped_is))
+              let left : get_or (set xs (index % 16) (Some len)) i None ≡ Some len =
+              ap (λ (n : ℕ). get_or (set xs (index % 16) (Some len)) n None) same
+              ∙ get_or-set_same xs (index % 16) (Some len) None (omega (arith, wide)) in
+              left
+              ∙ sym
+              (right ∙ ap (λ (n : ℕ). option_map capped (length_at (lengths ++ (index, content) ∷ []) n)) place
+              ∙ ap (option_map capped) (here_at lengths old.next index content h.none_later order) ∙ ap (λ (n : ℕ). Some n) (sym capped_is))
           | inr other ↦
               let apart : index ≡ 16 * k + i → ⊥ = λ e. other (omega (arith, at, e)) in
               get_or-set_other xs (index % 16) i (Some len) None other
-              ∙ get_or-map (option_map capped) (block_at lengths k) i None None (omega (arith, length-block lengths k)) ∙ ap (option_map capped) (in_block lengths k i i_lt)
+              ∙ get_or-map (option_map capped) (block_at lengths k) i None None (omega (arith, length-block lengths k))
+              ∙ ap (option_map capped) (in_block lengths k i i_lt)
               ∙ sym (right ∙ ap (option_map capped) (other_at lengths index content (16 * k + i) apart))
         ])
 

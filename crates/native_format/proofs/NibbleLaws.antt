@@ -1,12 +1,14 @@
 -- Nibbles of bytes, and the numbers in them.
-use Rattle.std.proofs.Common.{◌≡◌, ℕ, zero, suc, ◌+◌, ◌*◌, ◌-◌, ◌/◌, ◌%◌, ◌^◌, ◌<◌, ◌≤◌, Bool, true, false, cond, eqb, List, [], ◌∷◌, ◌++◌, length, get_or, map, drop, Option, Some, None, refl, sym, ap, subst, ◌∙◌, append_assoc, arith, inl, inr}
+use Rattle.std.proofs.Common.{◌≡◌, ℕ, zero, suc, ◌+◌, ◌*◌, ◌-◌, ◌/◌, ◌%◌, ◌^◌, ◌<◌, ◌≤◌, Bool, true, false, cond, eqb, List, [], ◌∷◌, ◌++◌}
+use Rattle.std.proofs.Common.{length, get_or, map, drop, Option, Some, None, refl, sym, ap, subst, ◌∙◌, append_assoc, arith, inl, inr}
 use Rattle.std.specs.Option.{IfSome, option_to_list}
 use Rattle.std.specs.List.{flat_map, AllByRecursion}
 use Rattle.std.specs.Int.Digits.{digits_of, number_from_digits_after, AllBelowBase}
 use Rattle.std.proofs.Math.Nat.{pow-suc, one-le-pow, le-mul_of_pos_right, mul-le-mul_left}
 use Rattle.std.proofs.lemmas.Bool.{eq-eqb, ne_eqb, lt-ltb, le-ltb, cases_lt}
 use Rattle.std.proofs.lemmas.List.{append-nil, length-append, length-map, map-append, drop_more, drop_all}
-use Rattle.std.proofs.lemmas.Int.Digits.{number_digits_of, all_below_base_digits_of, length-digits_of-le, length-digits_of_step, digits_of_step}
+use Rattle.std.proofs.lemmas.Int.Digits.{number_digits_of, all_below_base_digits_of, length-digits_of-le, length-digits_of_step}
+use Rattle.std.proofs.lemmas.Int.Digits.{digits_of_step}
 use Rattle.native_format.specs.Nibbles.{nibbles, numbers_after, numbers, groups, packed}
 use Rattle.native_format.specs.NibbleSteps.{IsLost, ReadsNumber, numbers_from}
 
@@ -127,15 +129,19 @@ pub numbers_groups : (v : ℕ) (tail : List ℕ) → numbers (groups v ++ tail) 
 unfolding groups
 numbers_groups v tail =
     let ds = digits_of 8 (v / 8) in
-    let regrouped : (map (λ d. 8 + d) ds ++ (v % 8) ∷ []) ++ tail ≡ map (λ d. 8 + d) ds ++ ((v % 8) ∷ tail) = append_assoc (map (λ d. 8 + d) ds) ((v % 8) ∷ []) tail in
+    let regrouped : (map (λ d. 8 + d) ds ++ (v % 8) ∷ []) ++ tail ≡ map (λ d. 8 + d) ds ++ ((v % 8) ∷ tail) =
+    append_assoc (map (λ d. 8 + d) ds) ((v % 8) ∷ []) tail in
     let upper : number_from_digits_after 8 0 ds ≡ v / 8 = number_digits_of 8 (v / 8) (omega arith) in
     let whole : 8 * (v / 8) + v % 8 ≡ v = omega arith in
-    ap numbers regrouped ∙ numbers_marked 0 ds ((v % 8) ∷ tail) (all_below_base_digits_of 8 (v / 8) (omega arith)) ∙ ap (λ (h : ℕ). numbers_after h ((v % 8) ∷ tail)) upper ∙ numbers_last (v / 8) (v % 8) tail (omega arith) ∙ ap (λ (x : ℕ). x ∷ numbers tail) whole
+    ap numbers regrouped ∙ numbers_marked 0 ds ((v % 8) ∷ tail) (all_below_base_digits_of 8 (v / 8) (omega arith))
+    ∙ ap (λ (h : ℕ). numbers_after h ((v % 8) ∷ tail)) upper ∙ numbers_last (v / 8) (v % 8) tail (omega arith)
+    ∙ ap (λ (x : ℕ). x ∷ numbers tail) whole
 
 pub numbers_written : (vs tail : List ℕ) → numbers (flat_map groups vs ++ tail) ≡ vs ++ numbers tail
 numbers_written [] tail = refl
 numbers_written (v ∷ vs) tail =
-    ap numbers (append_assoc (groups v) (flat_map groups vs) tail) ∙ numbers_groups v (flat_map groups vs ++ tail) ∙ ap (λ (ns : List ℕ). v ∷ ns) (numbers_written vs tail)
+    ap numbers (append_assoc (groups v) (flat_map groups vs) tail) ∙ numbers_groups v (flat_map groups vs ++ tail)
+    ∙ ap (λ (ns : List ℕ). v ∷ ns) (numbers_written vs tail)
 
 abbrev pub AreNibbles : List ℕ → Type 0
 AreNibbles ns = AllByRecursion (λ n. n < 16) ns
@@ -234,7 +240,8 @@ paired bytes new now half low n half-is narrow small new-is now-is =
     let low-is : (low + 16 * n) % 16 ≡ low = omega arith in
     let high-is : (low + 16 * n) / 16 ≡ n = omega arith in
     let now-is' : now ≡ nibbles bytes ++ low ∷ [] = now-is ∙ ap (λ (o : Option ℕ). nibbles bytes ++ option_to_list o) half-is in
-    append-nil (nibbles new) ∙ ap nibbles new-is ∙ nibbles-append bytes ((low + 16 * n) ∷ []) ∙ rw (low-is, high-is, now-is', append_assoc) refl
+    append-nil (nibbles new) ∙ ap nibbles new-is ∙ nibbles-append bytes ((low + 16 * n) ∷ [])
+    ∙ rw (low-is, high-is, now-is', append_assoc) refl
 
 pub finished_half : (bytes new now : List ℕ) (half : Option ℕ) (low : ℕ) → half ≡ Some low → new ≡ bytes ++ low ∷ []
     → now ≡ nibbles bytes ++ option_to_list half → new ≡ packed now
@@ -249,9 +256,10 @@ finished_whole bytes now half half-is now-is =
 
 -- the octal digits of a number, with 8 added to each
 pub marked_step : (v : ℕ) → 0 < v → map (λ d. 8 + d) (digits_of 8 v) ≡ map (λ d. 8 + d) (digits_of 8 (v / 8)) ++ (8 + v % 8) ∷ []
-marked_step v some = ap (map (λ d. 8 + d)) (digits_of_step 8 v (omega arith) some) ∙ map-append (λ d. 8 + d) (digits_of 8 (v / 8)) ((v % 8) ∷ [])
+marked_step v some =
+    ap (map (λ d. 8 + d)) (digits_of_step 8 v (omega arith) some) ∙ map-append (λ d. 8 + d) (digits_of 8 (v / 8)) ((v % 8) ∷ [])
 
--- one piece put behind another
+-- one piece put after another
 pub both_put : (old mid new x y : List ℕ) → new ≡ mid ++ y → mid ≡ old ++ x → new ≡ old ++ (x ++ y)
 both_put old mid new x y p q = p ∙ ap (λ (l : List ℕ). l ++ y) q ∙ append_assoc old x y
 

@@ -1,5 +1,7 @@
 -- Lists of slots and the numbers that spell them.
-use Rattle.std.proofs.Common.{◌≡◌, ◌⊎◌, ℕ, zero, suc, ◌+◌, ◌*◌, ◌-◌, ◌^◌, ◌<◌, ◌≤◌, Bool, true, false, cond, eqb, ltb, List, [], ◌∷◌, ◌++◌, length, get_or, take, drop, Option, Some, None, Result, Ok, Err, refl, sym, ap, subst, ◌∙◌, append_assoc, arith, inl, inr}
+use Rattle.std.proofs.Common.{◌≡◌, ◌⊎◌, ℕ, zero, suc, ◌+◌, ◌*◌, ◌-◌, ◌^◌, ◌<◌, ◌≤◌, Bool, true, false, cond, eqb, ltb, List, [], ◌∷◌, ◌++◌}
+use Rattle.std.proofs.Common.{length, get_or, take, drop, Option, Some, None, Result, Ok, Err, refl, sym, ap, subst, ◌∙◌, append_assoc}
+use Rattle.std.proofs.Common.{arith, inl, inr}
 use Rattle.std.specs.Option.{option_map}
 use Rattle.std.specs.Result.{IfOk}
 use Rattle.std.specs.List.{flat_map, AllByRecursion}
@@ -10,14 +12,16 @@ use Rattle.std.proofs.lemmas.Grind.{flat_map-append}
 use Rattle.std.proofs.lemmas.Option.{none-some, same_Some}
 use Rattle.native_format.specs.declared.nibbles.SlotRef.{SlotRef}
 use Rattle.native_format.specs.declared.nibbles.ListRefusal.{ListRefusal}
-use Rattle.native_format.specs.Nibbles.{nibbles, numbers, numbers_between, numbers_after_slot, numbers_of, Precedes, AscendFrom, IsSlotList, FitsWords, BeginsWithList, fits_words, with_first, at_slot, slots_behind, slots_of, list_at, GivesList, groups, list_bytes}
+use Rattle.native_format.specs.Nibbles.{nibbles, numbers, numbers_between, numbers_after_slot, numbers_of, Precedes, AscendFrom, IsSlotList}
+use Rattle.native_format.specs.Nibbles.{FitsWords, BeginsWithList, fits_words, with_first, at_slot, slots_behind, slots_of, list_at}
+use Rattle.native_format.specs.Nibbles.{GivesList, groups, list_bytes}
 use Rattle.native_format.specs.NibbleSteps.{IsLost, ReadsSlot, numbers_from}
 use Rattle.native_format.proofs.NibbleLaws.{group_one, nibbles-append, nibbles-drop, nibbles_packed, numbers_written, written_are}
 
 abbrev Slots : Type 0
 Slots = List SlotRef
 
--- ---- one slot in front
+-- ---- one slot before others
 
 pub first_fits : (r : SlotRef) (rs : Slots) → FitsWords r → with_first r (Some rs) ≡ Some (r ∷ rs)
 first_fits r rs h = rw (lt-ltb r.section (2 ^ 32) h.0, lt-ltb r.slot (2 ^ 32) h.1) refl
@@ -49,18 +53,20 @@ fronted r others list e = go (fits_words r) others refl e where
 -- ---- a distance above 0
 
 pub behind_slot : (last : SlotRef) (d : ℕ) (ns : List ℕ) → 0 < d
-    → slots_behind last (d ∷ ns) ≡ with_first (at_slot last.section (last.slot + d)) (slots_behind (at_slot last.section (last.slot + d)) ns)
+    → slots_behind last (d ∷ ns) ≡ with_first (at_slot last.section (last.slot + d))
+    (slots_behind (at_slot last.section (last.slot + d)) ns)
 unfolding slots_behind
 behind_slot last zero ns h = absurd (omega arith)
 behind_slot last (suc d) ns h = refl
 
 pub behind_section : (last : SlotRef) (d slot : ℕ) (ns : List ℕ) → 0 < d
-    → slots_behind last (0 ∷ d ∷ slot ∷ ns) ≡ with_first (at_slot (last.section + d) slot) (slots_behind (at_slot (last.section + d) slot) ns)
+    → slots_behind last (0 ∷ d ∷ slot ∷ ns) ≡ with_first (at_slot (last.section + d) slot)
+    (slots_behind (at_slot (last.section + d) slot) ns)
 unfolding slots_behind
 behind_section last zero slot ns h = absurd (omega arith)
 behind_section last (suc d) slot ns h = refl
 
--- what was read, and what is read behind it
+-- what was read, and what is read after it
 abbrev pub with_front : Slots → Option Slots → Option Slots
 with_front front others = option_map (λ rs. front ++ rs) others
 
@@ -82,12 +88,16 @@ all_behind last [] behind ascend fit = refl
 all_behind last (r ∷ rs) behind (inl lower, ascend) fit =
     let apart : eqb r.section last.section ≡ false = ne_eqb _ _ (λ e. omega (arith, e)) in
     let sum : last.section + (r.section - last.section) ≡ r.section = omega arith in
-    rw apart (behind_section last (r.section - last.section) r.slot (numbers_after_slot r rs ++ behind) (omega arith) ∙ rw sum (ap (with_first r) (all_behind r rs behind ascend fit.1) ∙ first_fits r rs fit.0))
+    rw apart
+    (behind_section last (r.section - last.section) r.slot (numbers_after_slot r rs ++ behind) (omega arith)
+    ∙ rw sum (ap (with_first r) (all_behind r rs behind ascend fit.1) ∙ first_fits r rs fit.0))
 all_behind last (r ∷ rs) behind (inr same, ascend) fit =
     let equal : eqb r.section last.section ≡ true = eq-eqb _ _ (sym same.0) in
     let sum : last.slot + (r.slot - last.slot) ≡ r.slot = omega (arith, same.1) in
     let section : last.section ≡ r.section = same.0 in
-    rw equal (behind_slot last (r.slot - last.slot) (numbers_after_slot r rs ++ behind) (omega (arith, same.1)) ∙ rw (sum, section) (ap (with_first r) (all_behind r rs behind ascend fit.1) ∙ first_fits r rs fit.0))
+    rw equal
+    (behind_slot last (r.slot - last.slot) (numbers_after_slot r rs ++ behind) (omega (arith, same.1))
+    ∙ rw (sum, section) (ap (with_first r) (all_behind r rs behind ascend fit.1) ∙ first_fits r rs fit.0))
 
 pub all_of : (list : Slots) (behind : List ℕ) → IsSlotList list → AllByRecursion FitsWords list
     → slots_of (numbers_of list ++ behind) ≡ Some list
@@ -106,7 +116,8 @@ read_behind : (last : SlotRef) (ns : List ℕ) (list : Slots) → slots_behind l
 unfolding slots_behind numbers_after_slot
 read_behind last [] list e = absurd (none-some list e)
 read_behind last (zero ∷ []) list e = absurd (none-some list e)
-read_behind last (zero ∷ zero ∷ ns) list e = subst (λ (l : Slots). Behind last l (zero ∷ zero ∷ ns)) (same_Some [] list e) (record { ascend = tt; behind = ns; spelled = refl })
+read_behind last (zero ∷ zero ∷ ns) list e =
+    subst (λ (l : Slots). Behind last l (zero ∷ zero ∷ ns)) (same_Some [] list e) (record { ascend = tt; behind = ns; spelled = refl })
 read_behind last (zero ∷ suc d ∷ []) list e = absurd (none-some list e)
 read_behind last (zero ∷ suc d ∷ slot ∷ ns) list e =
     let r = at_slot (last.section + suc d) slot in
@@ -139,7 +150,8 @@ read_numbers bytes (section ∷ slot ∷ ns) list is e =
     let r = at_slot section slot in
     let f = fronted r (slots_behind r ns) list e in
     let b = read_behind r ns f.rest f.others_are in
-    subst (λ (l : Slots). BeginsWithList bytes l) f.list_is (record { ascending = b.ascend; behind = b.behind; spelled = is ∙ ap (λ (t : List ℕ). section ∷ slot ∷ t) b.spelled })
+    subst (λ (l : Slots). BeginsWithList bytes l) f.list_is
+    (record { ascending = b.ascend; behind = b.behind; spelled = is ∙ ap (λ (t : List ℕ). section ∷ slot ∷ t) b.spelled })
 
 pub read_list : (bytes : List ℕ) (list : Slots) → slots_of (numbers (nibbles bytes)) ≡ Some list → BeginsWithList bytes list
 read_list bytes list e = read_numbers bytes (numbers (nibbles bytes)) list refl e
@@ -159,8 +171,14 @@ pub is_written : (list : Slots) (rest : List ℕ) → IsSlotList list → Begins
 is_written list rest ascending =
     let ns = flat_map groups (numbers_of list) in
     let p = nibbles_packed ns (written_are (numbers_of list)) in
-    let whole : nibbles (list_bytes list ++ rest) ≡ ns ++ (p.0 ++ nibbles rest) = nibbles-append (list_bytes list) rest ∙ ap (λ (t : List ℕ). t ++ nibbles rest) p.1 ∙ append_assoc ns p.0 (nibbles rest) in
-    record { ascending = ascending; behind = numbers (p.0 ++ nibbles rest); spelled = ap numbers whole ∙ numbers_written (numbers_of list) (p.0 ++ nibbles rest) }
+    let whole : nibbles (list_bytes list ++ rest) ≡ ns ++ (p.0 ++ nibbles rest) =
+    nibbles-append (list_bytes list) rest ∙ ap (λ (t : List ℕ). t ++ nibbles rest) p.1 ∙ append_assoc ns p.0 (nibbles rest) in
+    record {
+      ascending = ascending;
+      behind = numbers (p.0 ++ nibbles rest);
+      spelled = ap numbers whole
+          ∙ numbers_written (numbers_of list) (p.0 ++ nibbles rest);
+    }
 
 -- ---- the parts of the reader
 
@@ -180,7 +198,8 @@ no_slot section [] h = refl
 no_slot section (slot ∷ ns) h = slot_wide (at_slot section slot) (slots_behind (at_slot section slot) ns) h
 
 pub slot_sum_wide : (last : SlotRef) (d : ℕ) (ns : List ℕ) → 0 < d → 2 ^ 32 ≤ last.slot + d → slots_behind last (d ∷ ns) ≡ None
-slot_sum_wide last d ns some h = behind_slot last d ns some ∙ slot_wide (at_slot last.section (last.slot + d)) (slots_behind (at_slot last.section (last.slot + d)) ns) h
+slot_sum_wide last d ns some h =
+    behind_slot last d ns some ∙ slot_wide (at_slot last.section (last.slot + d)) (slots_behind (at_slot last.section (last.slot + d)) ns) h
 
 pub no_distance : (last : SlotRef) (ns : List ℕ) → IsLost ns → slots_behind last ns ≡ None
 unfolding slots_behind
@@ -191,7 +210,8 @@ pub section_sum_wide : (last : SlotRef) (d : ℕ) (ns : List ℕ) → 0 < d → 
 unfolding slots_behind
 section_sum_wide last zero ns some h = absurd (omega arith)
 section_sum_wide last (suc d) [] some h = refl
-section_sum_wide last (suc d) (slot ∷ ns) some h = section_wide (at_slot (last.section + suc d) slot) (slots_behind (at_slot (last.section + suc d) slot) ns) h
+section_sum_wide last (suc d) (slot ∷ ns) some h =
+    section_wide (at_slot (last.section + suc d) slot) (slots_behind (at_slot (last.section + suc d) slot) ns) h
 
 pub no_section_distance : (last : SlotRef) (ns : List ℕ) → IsLost ns → slots_behind last (0 ∷ ns) ≡ None
 unfolding slots_behind
@@ -202,7 +222,8 @@ pub no_first_slot : (last : SlotRef) (d : ℕ) (ns : List ℕ) → 0 < d → IsL
 unfolding slots_behind
 no_first_slot last zero ns some h = absurd (omega arith)
 no_first_slot last (suc d) [] some h = refl
-no_first_slot last (suc d) (slot ∷ ns) some h = slot_wide (at_slot (last.section + suc d) slot) (slots_behind (at_slot (last.section + suc d) slot) ns) h
+no_first_slot last (suc d) (slot ∷ ns) some h =
+    slot_wide (at_slot (last.section + suc d) slot) (slots_behind (at_slot (last.section + suc d) slot) ns) h
 
 pub ends_here : (last : SlotRef) (ns : List ℕ) → slots_behind last (0 ∷ 0 ∷ ns) ≡ Some []
 unfolding slots_behind
@@ -210,7 +231,8 @@ ends_here last ns = refl
 
 pub reads : (bytes : List ℕ) (list : Option Slots) (start at : ℕ) (slot : SlotRef) → start < at → at ≤ 2 * length bytes → FitsWords slot
     → list ≡ with_first slot (slots_behind slot (numbers_from bytes at)) → ReadsSlot bytes list start slot at
-reads bytes list start at slot further within fit is = record { further = further; within = within; list_is = is ∙ first_is slot (slots_behind slot (numbers_from bytes at)) fit }
+reads bytes list start at slot further within fit is =
+    record { further = further; within = within; list_is = is ∙ first_is slot (slots_behind slot (numbers_from bytes at)) fit }
 
 -- the list from a place on, by its nibbles
 pub list_from_nibble : (bytes : List ℕ) (at : ℕ) → slots_of (numbers_from bytes (2 * at)) ≡ list_at bytes at
@@ -221,7 +243,7 @@ pub slots_of_two : (section slot : ℕ) (ns : List ℕ)
 unfolding slots_of
 slots_of_two section slot ns = refl
 
--- two numbers and what is behind them
+-- two numbers and what is after them
 pub same_two : {a b : ℕ} (all some behind : List ℕ) (m n : ℕ) → a ≡ m → b ≡ n → all ≡ a ∷ some → some ≡ b ∷ behind → all ≡ m ∷ n ∷ behind
 same_two {a} {b} all some behind m n p q e f = rw (e, f, p, q) refl
 
@@ -249,7 +271,7 @@ in_order last list i slot d lt is h =
     let next : drop i list ≡ slot ∷ drop (i + 1) list = drop_more list i d lt ∙ ap (λ (r : SlotRef). r ∷ drop (i + 1) list) (sym is) in
     subst (AscendFrom last) next h
 
--- what was put, and what is put behind it, are all
+-- what was put, and what is put after it, are all
 pub put_one : (old new all : List ℕ) (last : SlotRef) (list : Slots) (i : ℕ) (slot d : SlotRef) → i < length list → slot ≡ get_or list i d
     → new ≡ old ++ flat_map groups (numbers_between last slot) → old ++ flat_map groups (numbers_after_slot last (drop i list)) ≡ all
     → new ++ flat_map groups (numbers_after_slot slot (drop (i + 1) list)) ≡ all
@@ -257,7 +279,9 @@ unfolding numbers_after_slot
 put_one old new all last list i slot d lt is new-is e =
     let next : drop i list ≡ slot ∷ drop (i + 1) list = drop_more list i d lt ∙ ap (λ (r : SlotRef). r ∷ drop (i + 1) list) (sym is) in
     let others = numbers_after_slot slot (drop (i + 1) list) in
-    let split : flat_map groups (numbers_after_slot last (drop i list)) ≡ flat_map groups (numbers_between last slot) ++ flat_map groups others = ap (λ (l : Slots). flat_map groups (numbers_after_slot last l)) next ∙ flat_map-append groups (numbers_between last slot) others in
+    let split : flat_map groups (numbers_after_slot last (drop i list)) ≡ flat_map groups (numbers_between last slot) ++ flat_map groups
+    others =
+    ap (λ (l : Slots). flat_map groups (numbers_after_slot last l)) next ∙ flat_map-append groups (numbers_between last slot) others in
     ap (λ (l : List ℕ). l ++ flat_map groups others) new-is ∙ append_assoc old _ _ ∙ ap (λ (l : List ℕ). old ++ l) (sym split) ∙ e
 
 pub put_last : (old one new all : List ℕ) (last : SlotRef) (list : Slots) (i : ℕ) → length list ≤ i → one ≡ old ++ groups 0
@@ -266,7 +290,9 @@ pub put_last : (old one new all : List ℕ) (last : SlotRef) (list : Slots) (i :
 unfolding numbers_after_slot
 put_last old one new all last list i le one-is new-is e =
     let nothing : drop i list ≡ [] = drop_all i list le in
-    new-is ∙ ap (λ (l : List ℕ). l ++ groups 0) one-is ∙ append_assoc old (groups 0) (groups 0) ∙ ap (λ (l : List ℕ). old ++ (groups 0 ++ l)) (sym (append-nil (groups 0))) ∙ ap (λ (l : Slots). old ++ flat_map groups (numbers_after_slot last l)) (sym nothing) ∙ e
+    new-is ∙ ap (λ (l : List ℕ). l ++ groups 0) one-is ∙ append_assoc old (groups 0) (groups 0)
+    ∙ ap (λ (l : List ℕ). old ++ (groups 0 ++ l)) (sym (append-nil (groups 0)))
+    ∙ ap (λ (l : Slots). old ++ flat_map groups (numbers_after_slot last l)) (sym nothing) ∙ e
 
 pub some_slot : (list : Slots) → IsSlotList list → 1 ≤ length list
 some_slot [] h = absurd h
@@ -286,8 +312,10 @@ pub put_all : (list : Slots) (first d : SlotRef) (old one two new : List ℕ) �
 unfolding numbers_of
 put_all list first d old one two new is h one-is two-is new-is =
     let rest = flat_map groups (numbers_after_slot first (drop 1 list)) in
-    let whole : old ++ flat_map groups (numbers_of (first ∷ drop 1 list)) ≡ old ++ flat_map groups (numbers_of list) = ap (λ (l : Slots). old ++ flat_map groups (numbers_of l)) (sym (first_and_others list first d is h)) in
-    new-is ∙ ap (λ (l : Slots). two ++ flat_map groups (numbers_after_slot first l)) (take_rest list 1) ∙ ap (λ (l : List ℕ). l ++ rest) two-is ∙ ap (λ (l : List ℕ). (l ++ groups first.slot) ++ rest) one-is ∙ simp append_assoc whole
+    let whole : old ++ flat_map groups (numbers_of (first ∷ drop 1 list)) ≡ old ++ flat_map groups (numbers_of list) =
+    ap (λ (l : Slots). old ++ flat_map groups (numbers_of l)) (sym (first_and_others list first d is h)) in
+    new-is ∙ ap (λ (l : Slots). two ++ flat_map groups (numbers_after_slot first l)) (take_rest list 1)
+    ∙ ap (λ (l : List ℕ). l ++ rest) two-is ∙ ap (λ (l : List ℕ). (l ++ groups first.slot) ++ rest) one-is ∙ simp append_assoc whole
 
 -- ---- how many nibbles
 
@@ -295,7 +323,8 @@ abbrev count_of : List ℕ → ℕ
 count_of numbers = length (flat_map groups numbers)
 
 pub count_one : (last : SlotRef) (list : Slots) (i : ℕ) (slot d : SlotRef) → i < length list → slot ≡ get_or list i d
-    → count_of (numbers_after_slot last (drop i list)) ≡ count_of (numbers_between last slot) + count_of (numbers_after_slot slot (drop (i + 1) list))
+    → count_of (numbers_after_slot last (drop i list)) ≡ count_of (numbers_between last slot) + count_of
+    (numbers_after_slot slot (drop (i + 1) list))
 count_one last list i slot d lt is =
     let between = flat_map groups (numbers_between last slot) in
     sym (ap length (put_one [] between (flat_map groups (numbers_after_slot last (drop i list))) last list i slot d lt is refl refl))
@@ -303,11 +332,15 @@ count_one last list i slot d lt is =
 
 pub count_last : (last : SlotRef) (list : Slots) (i : ℕ) → length list ≤ i → count_of (numbers_after_slot last (drop i list)) ≡ 2
 count_last last list i le =
-    sym (ap length (put_last [] (groups 0) (groups 0 ++ groups 0) (flat_map groups (numbers_after_slot last (drop i list))) last list i le refl refl refl))
-    ∙ length-append (groups 0) (groups 0) ∙ ap (λ (n : ℕ). n + length (groups 0)) (group_one 0 (omega arith)) ∙ ap (λ (n : ℕ). 1 + n) (group_one 0 (omega arith))
+    sym
+    (ap length (put_last [] (groups 0) (groups 0 ++ groups 0) (flat_map groups (numbers_after_slot last (drop i list))) last list i le refl
+    refl refl))
+    ∙ length-append (groups 0) (groups 0) ∙ ap (λ (n : ℕ). n + length (groups 0)) (group_one 0 (omega arith))
+    ∙ ap (λ (n : ℕ). 1 + n) (group_one 0 (omega arith))
 
 pub count_all : (list : Slots) (first d : SlotRef) → first ≡ get_or list 0 d → IsSlotList list
-    → count_of (numbers_of list) ≡ length (groups first.section) + length (groups first.slot) + count_of (numbers_after_slot first (take (length list - 1) (drop 1 list)))
+    → count_of (numbers_of list) ≡ length (groups first.section) + length (groups first.slot) + count_of
+    (numbers_after_slot first (take (length list - 1) (drop 1 list)))
 count_all list first d is h =
     let others = flat_map groups (numbers_after_slot first (take (length list - 1) (drop 1 list))) in
     let front = groups first.section ++ groups first.slot in

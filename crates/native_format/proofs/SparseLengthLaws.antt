@@ -1,22 +1,25 @@
 -- The length of a written sparse array, by the lengths of its contents.
-use Rattle.std.proofs.Common.{◌≡◌, ℕ, zero, suc, ◌+◌, ◌-◌, ◌*◌, ◌/◌, ◌%◌, ◌^◌, ◌<◌, ◌≤◌, min, Bool, true, false, cond, eqb, ltb, List, [], ◌∷◌, ◌++◌, length, map, get_or, set, take, drop, Option, Some, None, refl, sym, ap, subst, ◌∙◌, arith, inl, inr}
+use Rattle.std.proofs.Common.{◌≡◌, ℕ, zero, suc, ◌+◌, ◌-◌, ◌*◌, ◌^◌, ◌<◌, ◌≤◌, Bool, true, false, cond, eqb, List, [], ◌∷◌, ◌++◌, length}
+use Rattle.std.proofs.Common.{map, get_or, take, drop, Option, Some, None, refl, sym, ap, ◌∙◌, arith, inl, inr}
 use Rattle.std.specs.Prelude.{sum_by, unwrap_or}
 use Rattle.std.specs.Option.{option_map}
 use Rattle.std.specs.List.{range_with_len}
-use Rattle.std.proofs.lemmas.Bool.{lt-ltb, le-ltb, eq-eqb, ne_eqb, cases_eq, cases_lt}
-use Rattle.std.proofs.lemmas.List.{length-append, length-drop, length-map, length-set, length-take-le, take_rest, get_or-map, get_or-take, get_or-drop, get_or-set_same, get_or-set_other, ext_get_or, take-map, drop-map}
+use Rattle.std.proofs.lemmas.Bool.{lt-ltb, le-ltb, ne_eqb, cases_lt}
+use Rattle.std.proofs.lemmas.List.{length-append, length-drop, length-map, length-take-le, take_rest, get_or-map, get_or-take, get_or-drop}
+use Rattle.std.proofs.lemmas.List.{ext_get_or, take-map, drop-map}
 use Rattle.byteorder.specs.Endian.{little_bytes}
 use Rattle.byteorder.specs.Numbers.{length-bytes_low_first}
-use Rattle.std.proofs.lemmas.List.FromFn.{get_or-map-range_with_len, length-map-range_with_len, map-range_with_len_more}
-use Rattle.std.proofs.lemmas.List.Sums.{sum_by-append, sum_by-cons}
-use Rattle.std.proofs.lemmas.List.Concat.{length-flat_map}
+use Rattle.std.proofs.lemmas.List.FromFn.{get_or-map-range_with_len, length-map-range_with_len}
+use Rattle.std.proofs.lemmas.List.Sums.{sum_by-cons}
 use Rattle.native_format.specs.declared.sparse.Element.{Element}
 use Rattle.native_format.specs.Uint.{short_uint}
 use Rattle.native_format.specs.Sparse.{blocks_of, weights}
-use Rattle.native_format.specs.SparseBytes.{block, block_bytes, blocks, content_by_index, fork_number, index_bytes, joined, fork_in, slots_from, sparse_bytes, tree}
-use Rattle.native_format.specs.SparseLengths.{AreBelow, Lengths, Measure, Measures, block_at, block_len, blocks_len, capped, fork_len, front_len, length_at, length_of, lengths_from, lengths_of, node_len, sparse_len, tree_len}
-use Rattle.native_format.specs.SparseSteps.{AreSlots}
-use Rattle.native_format.proofs.UintLaws.{short_len, short_size, size_some}
+use Rattle.native_format.specs.SparseBytes.{block, blocks, content_by_index, fork_number, index_bytes, joined, fork_in, slots_from}
+use Rattle.native_format.specs.SparseBytes.{sparse_bytes, tree}
+use Rattle.native_format.specs.SparseLengths.{AreBelow, Lengths, block_at, block_len, blocks_len, capped, fork_len, length_at, lengths_from}
+use Rattle.native_format.specs.SparseLengths.{lengths_of, node_len, sparse_len, tree_len}
+use Rattle.native_format.specs.SparseSteps.{AreSlots, IsSmall}
+use Rattle.native_format.proofs.UintLaws.{short_len, size_some}
 use Rattle.native_format.proofs.WriterParts.{below, node_len_is, split_weights, wide_split}
 
 abbrev pub Lens : Type 0
@@ -53,18 +56,27 @@ fork_one low h = rw (lt-ltb (fork_in low 1) (2 ^ 7) (omega arith)) (is_one (fork
 pub fork_two : (low : ℕ) → 2 ^ 5 - 1 ≤ low → low < 2 ^ 12 - 2 → fork_len low ≡ 2
 unfolding fork_len fork_number
 fork_two low g h =
-    rw (le-ltb (fork_in low 1) (2 ^ 7) (omega arith), lt-ltb (fork_in low 2) (2 ^ 14) (omega arith)) (is_two (fork_in low 2) (omega arith) (omega arith))
+    rw (le-ltb (fork_in low 1) (2 ^ 7) (omega arith), lt-ltb (fork_in low 2) (2 ^ 14) (omega arith))
+    (is_two (fork_in low 2) (omega arith) (omega arith))
 
 pub fork_three : (low : ℕ) → 2 ^ 12 - 2 ≤ low → low < 2 ^ 19 - 3 → fork_len low ≡ 3
 unfolding fork_len fork_number
 fork_three low g h =
-    rw (le-ltb (fork_in low 1) (2 ^ 7) (omega arith), le-ltb (fork_in low 2) (2 ^ 14) (omega arith), lt-ltb (fork_in low 3) (2 ^ 21) (omega arith))
+    rw (
+      le-ltb (fork_in low 1) (2 ^ 7) (omega arith),
+      le-ltb (fork_in low 2) (2 ^ 14) (omega arith),
+      lt-ltb (fork_in low 3) (2 ^ 21) (omega arith),
+    )
     (is_three (fork_in low 3) (omega arith) (omega arith))
 
 last_number : (low : ℕ) → 2 ^ 19 - 3 ≤ low → fork_len low ≡ length (short_uint (fork_in low 4))
 unfolding fork_len fork_number
 last_number low g =
-    rw (le-ltb (fork_in low 1) (2 ^ 7) (omega arith), le-ltb (fork_in low 2) (2 ^ 14) (omega arith), le-ltb (fork_in low 3) (2 ^ 21) (omega arith)) refl
+    rw (
+      le-ltb (fork_in low 1) (2 ^ 7) (omega arith),
+      le-ltb (fork_in low 2) (2 ^ 14) (omega arith),
+      le-ltb (fork_in low 3) (2 ^ 21) (omega arith),
+    ) refl
 
 pub fork_four : (low : ℕ) → 2 ^ 19 - 3 ≤ low → low < 2 ^ 26 - 4 → fork_len low ≡ 4
 fork_four low g h = last_number low g ∙ is_four (fork_in low 4) (omega arith) (omega arith)
@@ -84,8 +96,10 @@ tree_len_is (w ∷ ws) slots =
     node_len_is (tree ws (take w slots)) (tree ws (drop w slots))
     ∙ ap (λ (l : Option ℕ). node_len l (option_map length (tree ws (drop w slots)))) (tree_len_is ws (take w slots))
     ∙ ap (λ (h : Option ℕ). node_len (tree_len ws (map (option_map length) (take w slots))) h) (tree_len_is ws (drop w slots))
-    ∙ ap (λ (x : Lens). node_len (tree_len ws x) (tree_len ws (map (option_map length) (drop w slots)))) (sym (take-map (option_map length) w slots))
-    ∙ ap (λ (y : Lens). node_len (tree_len ws (take w (map (option_map length) slots))) (tree_len ws y)) (sym (drop-map (option_map length) w slots))
+    ∙ ap (λ (x : Lens). node_len (tree_len ws x) (tree_len ws (map (option_map length) (drop w slots))))
+    (sym (take-map (option_map length) w slots))
+    ∙ ap (λ (y : Lens). node_len (tree_len ws (take w (map (option_map length) slots))) (tree_len ws y))
+    (sym (drop-map (option_map length) w slots))
 
 -- the halves of a tree, as the code names them
 abbrev pub upper_lens : ℕ → Lens → Lens
@@ -128,11 +142,30 @@ cap_or (Some n) = refl
 
 pub cap_block : (slots : Lens) → capped (block_len (map (option_map capped) slots)) ≡ capped (block_len slots)
 cap_block slots =
-    sym (cap_or (tree_len weights (map (option_map capped) slots))) ∙ ap (λ (t : Option ℕ). unwrap_or t 1) (cap_tree weights slots) ∙ cap_or (tree_len weights slots)
+    sym (cap_or (tree_len weights (map (option_map capped) slots))) ∙ ap (λ (t : Option ℕ). unwrap_or t 1) (cap_tree weights slots)
+    ∙ cap_or (tree_len weights slots)
 
 cap_step : (low high l h : Option ℕ) → option_map capped low ≡ option_map capped l → option_map capped high ≡ option_map capped h
     → option_map capped (node_len low high) ≡ option_map capped (node_len l h)
 cap_step low high l h p q = sym (cap_node low high) ∙ rw (p, q) (cap_node l h)
+
+-- a length that is below the limit is not capped
+uncapped : (r : Option ℕ) (t : Option (List ℕ)) → option_map capped r ≡ option_map capped (option_map length t) → IsSmall t
+    → r ≡ option_map length t
+uncapped None None e small = refl
+uncapped None (Some t) e small = absurd (let x : ⊥ = cc in x)
+uncapped (Some n) None e small = absurd (let x : ⊥ = cc in x)
+uncapped (Some n) (Some t) e small =
+    let same : capped n ≡ capped (length t) = cc in
+    ap (λ (m : ℕ). Some m) (omega (arith, same, small))
+
+-- of contents that are written
+pub len_written : (ws : List ℕ) (lens : Lens) (slots : List (Option (List ℕ))) (r : Option ℕ)
+    → option_map capped r ≡ option_map capped (tree_len ws lens) → lens ≡ map (option_map length) slots → IsSmall (tree ws slots)
+    → r ≡ option_map length (tree ws slots)
+len_written ws lens slots r e is small =
+    uncapped r (tree ws slots)
+    (e ∙ ap (λ (l : Lens). option_map capped (tree_len ws l)) is ∙ ap (option_map capped) (sym (tree_len_is ws slots))) small
 
 -- slots without contents
 abbrev pub AreNone : Lens → Type 0
@@ -154,7 +187,8 @@ none_at_all = all_none no_slots tt
 
 -- the steps of the code
 pub len_halves : (ws : List ℕ) (slots : Lens) → 1 ≤ length ws
-    → tree_len ws slots ≡ node_len (tree_len (below ws) (take (get_or ws 0 0) slots)) (tree_len (below ws) (upper_lens (get_or ws 0 0) slots))
+    → tree_len ws slots ≡ node_len (tree_len (below ws) (take (get_or ws 0 0) slots))
+    (tree_len (below ws) (upper_lens (get_or ws 0 0) slots))
 unfolding tree_len
 len_halves ws slots h =
     let w = get_or ws 0 0 in
@@ -199,7 +233,8 @@ pub wide_upper : (ws : List ℕ) (slots : Lens) → 1 ≤ length ws → AreSlots
     → AreSlots (below ws) (length (upper_lens (get_or ws 0 0) slots))
 wide_upper ws slots h wide =
     let p = wide_split ws (length slots) h wide in
-    let half : length (upper_lens (get_or ws 0 0) slots) ≡ get_or ws 0 0 = ap length (take_rest slots (get_or ws 0 0)) ∙ omega (arith, p.0, length-drop (get_or ws 0 0) slots) in
+    let half : length (upper_lens (get_or ws 0 0) slots) ≡ get_or ws 0 0 =
+    ap length (take_rest slots (get_or ws 0 0)) ∙ omega (arith, p.0, length-drop (get_or ws 0 0) slots) in
     rw half p.1
 
 -- a tree without contents
@@ -225,14 +260,22 @@ no_tree (w ∷ ws) slots none =
 pub blocks_more : (lengths : Lengths) (n : ℕ) → blocks_len lengths (n + 1) ≡ blocks_len lengths n + block_len (block_at lengths n)
 unfolding blocks_len
 blocks_more lengths n = let here : 0 + n ≡ n = omega arith in rw here at (go 0 n) where
-  go : (first n : ℕ) → sum_by (λ k. block_len (block_at lengths k)) (range_with_len first (n + 1)) ≡ sum_by (λ k. block_len (block_at lengths k)) (range_with_len first n) + block_len (block_at lengths (first + n))
+  go : (first n : ℕ)
+      → sum_by (λ k. block_len (block_at lengths k)) (range_with_len first (n + 1)) ≡ sum_by (λ k. block_len (block_at lengths k))
+      (range_with_len first n) + block_len (block_at lengths (first + n))
   go first zero = let here : first + 0 ≡ first = omega arith in rw here (omega arith)
   go first (suc n) =
       let f : ℕ → ℕ = λ k. block_len (block_at lengths k) in
       let here : first + 1 + n ≡ first + suc n = omega arith in
       let one : suc n + 1 ≡ suc (n + 1) = omega arith in
       ap (λ (m : ℕ). sum_by f (range_with_len first m)) one
-      ∙ omega (arith, sum_by-cons f first (range_with_len (first + 1) (n + 1)), sum_by-cons f first (range_with_len (first + 1) n), go (first + 1) n, ap f here)
+      ∙ omega (
+        arith,
+        sum_by-cons f first (range_with_len (first + 1) (n + 1)),
+        sum_by-cons f first (range_with_len (first + 1) n),
+        go (first + 1) n,
+        ap f here,
+      )
 
 pub none_blocks : (lengths : Lengths) → blocks_len lengths 0 ≡ 0
 unfolding blocks_len
@@ -265,7 +308,9 @@ same_blocks a b (suc n) same =
     let one : suc n ≡ n + 1 = omega arith in
     let before = same_blocks a b n (λ i lt. same i (omega arith)) in
     let here = same_block a b n (λ i lt. same (16 * n + i) (omega arith)) in
-    rw one (blocks_more a n ∙ ap (λ (m : ℕ). m + block_len (block_at a n)) before ∙ ap (λ (s : Lens). blocks_len b n + block_len s) here ∙ sym (blocks_more b n))
+    rw one
+    (blocks_more a n ∙ ap (λ (m : ℕ). m + block_len (block_at a n)) before ∙ ap (λ (s : Lens). blocks_len b n + block_len s) here
+    ∙ sym (blocks_more b n))
 
 -- nothing is at an index that all are below
 pub none_at : (lengths : Lengths) (limit i : ℕ) → AreBelow limit lengths → limit ≤ i → length_at lengths i ≡ None
@@ -287,7 +332,8 @@ pub empty_blocks : (lengths : Lengths) (limit k n : ℕ) → AreBelow limit leng
 empty_blocks lengths limit k zero h le = let e : k + 0 ≡ k = omega arith in rw e (omega arith)
 empty_blocks lengths limit k (suc n) h le =
     let next : k + suc n ≡ k + n + 1 = omega arith in
-    let one : block_len (block_at lengths (k + n)) ≡ 1 = ap (λ (t : Option ℕ). unwrap_or t 1) (no_tree weights (block_at lengths (k + n)) (empty_block lengths limit (k + n) h (omega arith))) in
+    let one : block_len (block_at lengths (k + n)) ≡ 1 =
+    ap (λ (t : Option ℕ). unwrap_or t 1) (no_tree weights (block_at lengths (k + n)) (empty_block lengths limit (k + n) h (omega arith))) in
     rw next (omega (arith, blocks_more lengths (k + n), one, empty_blocks lengths limit k n h le))
 
 -- ---- the whole
@@ -310,13 +356,16 @@ slots_of es k =
     let wide : length xs ≡ 16 = length-map-range_with_len (content_by_index es) (16 * k) 16 in
     ext_get_or None (map f xs) ys (length-map xs f ∙ wide ∙ sym (length-map-range_with_len (length_at (lengths_of es)) (16 * k) 16))
     (λ i lt. let i_lt : i < 16 = omega (arith, length-map xs f, wide) in
-    get_or-map f xs i None None (omega (arith, wide)) ∙ ap f (get_or-map-range_with_len (content_by_index es) (16 * k) 16 i (16 * k + i) None i_lt refl)
+    get_or-map f xs i None None (omega (arith, wide))
+    ∙ ap f (get_or-map-range_with_len (content_by_index es) (16 * k) 16 i (16 * k + i) None i_lt refl)
     ∙ length_at-of es (16 * k + i) ∙ sym (get_or-map-range_with_len (length_at (lengths_of es)) (16 * k) 16 i (16 * k + i) None i_lt refl))
 
 pub length-index : (at : ℕ) (bs : List (List ℕ)) → length (index_bytes at bs) ≡ 4 * length bs
 unfolding index_bytes
 length-index at [] = refl
-length-index at (b ∷ bs) = length-append (little_bytes 4 at) (index_bytes (at + length b) bs) ∙ rw (length-bytes_low_first 0 4 at, length-index (at + length b) bs) (omega arith)
+length-index at (b ∷ bs) =
+    length-append (little_bytes 4 at) (index_bytes (at + length b) bs)
+    ∙ rw (length-bytes_low_first 0 4 at, length-index (at + length b) bs) (omega arith)
 
 block_or : (t : Option (List ℕ)) → length (unwrap_or t (short_uint 64)) ≡ unwrap_or (option_map length t) 1
 block_or None = short_len 64
@@ -324,13 +373,16 @@ block_or (Some t) = refl
 
 pub block_len_is : (es : List Element) (k : ℕ) → length (block es k) ≡ block_len (block_at (lengths_of es) k)
 block_len_is es k =
-    block_or (tree weights (slots_from es (16 * k) 16)) ∙ ap (λ (t : Option ℕ). unwrap_or t 1) (tree_len_is weights (slots_from es (16 * k) 16))
+    block_or (tree weights (slots_from es (16 * k) 16))
+    ∙ ap (λ (t : Option ℕ). unwrap_or t 1) (tree_len_is weights (slots_from es (16 * k) 16))
     ∙ ap block_len (slots_of es k)
 
 pub blocks_len_is : (es : List Element) (n : ℕ) → length (joined (blocks es n)) ≡ blocks_len (lengths_of es) n
 unfolding blocks_len
 blocks_len_is es n = go 0 n where
-  go : (first n : ℕ) → length (joined (map (block es) (range_with_len first n))) ≡ sum_by (λ k. block_len (block_at (lengths_of es) k)) (range_with_len first n)
+  go : (first n : ℕ)
+      → length (joined (map (block es) (range_with_len first n))) ≡ sum_by (λ k. block_len (block_at (lengths_of es) k))
+      (range_with_len first n)
   go first zero = refl
   go first (suc n) =
       omega (

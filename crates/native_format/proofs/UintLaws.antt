@@ -1,12 +1,16 @@
 -- Native integers: what bytes begin with is spelled there, and nothing else is.
-use Rattle.std.proofs.Common.{◌≡◌, ℕ, zero, suc, ◌+◌, ◌*◌, ◌-◌, ◌/◌, ◌%◌, ◌^◌, ◌<◌, ◌≤◌, Bool, true, false, cond, eqb, ltb, leb, List, [], ◌∷◌, ◌++◌, length, get_or, take, drop, Option, Some, None, refl, sym, ap, ◌∙◌, append_assoc, length-append, arith, inl, inr}
+use Rattle.std.proofs.Common.{◌≡◌, ℕ, zero, suc, ◌+◌, ◌*◌, ◌-◌, ◌/◌, ◌%◌, ◌^◌, ◌<◌, ◌≤◌, Bool, true, false, cond, eqb, ltb, leb, List, []}
+use Rattle.std.proofs.Common.{◌∷◌, ◌++◌, length, get_or, take, drop, Option, Some, None, refl, sym, ap, ◌∙◌, append_assoc, length-append}
+use Rattle.std.proofs.Common.{arith, inl, inr}
 use Rattle.std.proofs.Math.Seq.{drop-append_seam, take-append_seam}
 use Rattle.std.proofs.lemmas.Bool.{eq-eqb, eqb-true, eqb-false, ne_eqb, le-leb, leb-true, ltb-true, lt-ltb, cases_Bool, cases_lt}
-use Rattle.std.proofs.lemmas.List.{append-nil, take_at, take-append-drop, length-append, length-take-le, length-drop, drop-append-le, drop-take, drop_all, get_or_append_left, get_or-take, get_or-drop, get_or_past, length-take, take_rest}
+use Rattle.std.proofs.lemmas.List.{append-nil, take_at, take-append-drop, length-append, length-take-le, length-drop, drop-append-le}
+use Rattle.std.proofs.lemmas.List.{drop-take, drop_all, get_or_append_left, get_or-take, get_or-drop, get_or_past, length-take, take_rest}
 use Rattle.std.proofs.lemmas.Option.{cond_some, some_pair_parts, none-some}
 use Rattle.std.specs.Option.{option_map, IfSome}
 use Rattle.byteorder.specs.Endian.{little_number, little_bytes}
-use Rattle.byteorder.specs.Numbers.{little_from-append, little_from-lt, little_number-reads_back, length-bytes_low_first, little_from-cons, little_from-take}
+use Rattle.byteorder.specs.Numbers.{little_from-append, little_from-lt, little_number-reads_back, length-bytes_low_first, little_from-cons}
+use Rattle.byteorder.specs.Numbers.{little_from-take}
 use Rattle.native_format.specs.Uint.{IsShifted, IsUint, IsUintBetween, short_uint, shifted, long, leading_uint, uint_at}
 
 abbrev pub IsBytes : List ℕ → Type 0
@@ -104,8 +108,11 @@ long_is bytes v k low e =
     let k-is : 5 ≡ k = ap (λ (p : ℕ × ℕ). p.1) g.1 in
     let first : get_or (take 5 bytes) 0 0 ≡ get_or bytes 0 0 = get_or-take 5 bytes 0 0 (omega arith) in
     let behind : drop 1 (take 5 bytes) ≡ take 4 (drop 1 bytes) = drop-take 1 4 bytes in
-    let front : little_number 4 (take 4 (drop 1 bytes)) ≡ little_number 4 (drop 1 bytes) = little_from-take 0 4 4 (drop 1 bytes) (omega arith) in
-    let spelled : IsUint v (take 5 bytes) = inr (inr (inr (inr (length-take-le 5 bytes le, omega (arith, first, low), sym v-is ∙ sym front ∙ ap (little_number 4) (sym behind))))) in
+    let front : little_number 4 (take 4 (drop 1 bytes)) ≡ little_number 4 (drop 1 bytes) =
+    little_from-take 0 4 4 (drop 1 bytes) (omega arith) in
+    let spelled : IsUint v (take 5 bytes) =
+    inr
+    (inr (inr (inr (length-take-le 5 bytes le, omega (arith, first, low), sym v-is ∙ sym front ∙ ap (little_number 4) (sym behind))))) in
     record { within = omega (arith, k-is, le); some = omega (arith, k-is); short = omega (arith, k-is); spelled = rw (← k-is) spelled }
 
 long_mark : (a : ℕ) → (a % 2 ≡ 0 → ⊥) → (a % 4 ≡ 1 → ⊥) → (a % 8 ≡ 3 → ⊥) → (a % 16 ≡ 7 → ⊥) → a % 16 ≡ 15
@@ -115,13 +122,20 @@ pub leading_is : (bytes : List ℕ) (v n : ℕ) → leading_uint bytes ≡ Some 
 unfolding leading_uint
 leading_is bytes v n e =
     elim (cases_Bool (is_low bytes 2 0)) [
-      | inl t ↦ let low = eqb-true _ _ t in leads 1 0 bytes v n (omega arith) (omega arith) inl (shifted_is 1 0 bytes v n (omega (arith, low)) (rw t at e))
+      | inl t ↦ let low =
+          eqb-true _ _ t in leads 1 0 bytes v n (omega arith) (omega arith) inl (shifted_is 1 0 bytes v n (omega (arith, low)) (rw t at e))
       | inr not_one ↦ elim (cases_Bool (is_low bytes 4 1)) [
-        | inl t ↦ let low = eqb-true _ _ t in leads 2 1 bytes v n (omega arith) (omega arith) (λ h. inr (inl h)) (shifted_is 2 1 bytes v n (omega (arith, low)) (rw (not_one, t) at e))
+        | inl t ↦ let low =
+            eqb-true _ _ t in leads 2 1 bytes v n (omega arith) (omega arith) (λ h. inr (inl h))
+            (shifted_is 2 1 bytes v n (omega (arith, low)) (rw (not_one, t) at e))
         | inr not_two ↦ elim (cases_Bool (is_low bytes 8 3)) [
-          | inl t ↦ let low = eqb-true _ _ t in leads 3 3 bytes v n (omega arith) (omega arith) (λ h. inr (inr (inl h))) (shifted_is 3 3 bytes v n (omega (arith, low)) (rw (not_one, not_two, t) at e))
+          | inl t ↦ let low =
+              eqb-true _ _ t in leads 3 3 bytes v n (omega arith) (omega arith) (λ h. inr (inr (inl h)))
+              (shifted_is 3 3 bytes v n (omega (arith, low)) (rw (not_one, not_two, t) at e))
           | inr not_three ↦ elim (cases_Bool (is_low bytes 16 7)) [
-            | inl t ↦ let low = eqb-true _ _ t in leads 4 7 bytes v n (omega arith) (omega arith) (λ h. inr (inr (inr (inl h)))) (shifted_is 4 7 bytes v n (omega (arith, low)) (rw (not_one, not_two, not_three, t) at e))
+            | inl t ↦ let low =
+                eqb-true _ _ t in leads 4 7 bytes v n (omega arith) (omega arith) (λ h. inr (inr (inr (inl h))))
+                (shifted_is 4 7 bytes v n (omega (arith, low)) (rw (not_one, not_two, not_three, t) at e))
             | inr not_four ↦
                 let a = eqb-false _ _ not_one in
                 let b = eqb-false _ _ not_two in
@@ -142,7 +156,8 @@ pub uint_at_is : (bytes : List ℕ) (at v next : ℕ) → uint_at bytes at ≡ S
     → (n : ℕ) × (at + n ≡ next) × Leads (drop at bytes) v n
 unfolding uint_at
 uint_at_is bytes at v next e = go (leading_uint (drop at bytes)) refl e where
-  go : (o : Option (ℕ × ℕ)) → leading_uint (drop at bytes) ≡ o → moved at o ≡ Some (v, next) → (n : ℕ) × (at + n ≡ next) × Leads (drop at bytes) v n
+  go : (o : Option (ℕ × ℕ)) → leading_uint (drop at bytes) ≡ o → moved at o ≡ Some (v, next)
+      → (n : ℕ) × (at + n ≡ next) × Leads (drop at bytes) v n
   go None is e = absurd (none-some (v, next) e)
   go (Some p) is e =
       let parts = some_pair_parts p.0 v (at + p.1) next e in
@@ -153,7 +168,8 @@ found bytes at v next e =
     let p = uint_at_is bytes at v next e in
     let h = p.2 in
     let size : next - at ≡ p.0 = omega (arith, p.1) in
-    record { ordered = omega (arith, p.1); within = omega (arith, p.1, h.within, h.some, length-drop at bytes); spelled = rw size h.spelled }
+    record
+    { ordered = omega (arith, p.1); within = omega (arith, p.1, h.within, h.some, length-drop at bytes); spelled = rw size h.spelled }
 
 pub uint_at_of : (bytes : List ℕ) (at v next : ℕ) → IsUintBetween bytes at v next → uint_at bytes at ≡ Some (v, next)
 unfolding uint_at
@@ -163,7 +179,9 @@ uint_at_of bytes at v next h =
     let ordered = h.ordered in
     let within = h.within in
     let len : length (take n (drop at bytes)) ≡ n = length-take-le n (drop at bytes) (omega (arith, length-drop at bytes)) in
-    let read : leading_uint (drop at bytes) ≡ Some (v, n) = ap leading_uint (sym whole) ∙ leading_of v (take n (drop at bytes)) (drop n (drop at bytes)) h.spelled ∙ ap (λ (k : ℕ). Some (v, k)) len in
+    let read : leading_uint (drop at bytes) ≡ Some (v, n) =
+    ap leading_uint (sym whole) ∙ leading_of v (take n (drop at bytes)) (drop n (drop at bytes)) h.spelled
+    ∙ ap (λ (k : ℕ). Some (v, k)) len in
     let next-is : at + n ≡ next = omega arith in
     rw read (ap (λ (k : ℕ). Some (v, k)) next-is)
 
@@ -191,7 +209,8 @@ short_spells v h =
         | inr not_two ↦ elim (cases_Bool (ltb v (2 ^ 21))) [
           | inl t ↦ let lt = ltb-true _ _ t in rw (not_one, not_two, t) (inr (inr (inl (writes 3 3 v (8 * v + 3) refl (omega arith)))))
           | inr not_three ↦ elim (cases_Bool (ltb v (2 ^ 28))) [
-            | inl t ↦ let lt = ltb-true _ _ t in rw (not_one, not_two, not_three, t) (inr (inr (inr (inl (writes 4 7 v (16 * v + 7) refl (omega arith))))))
+            | inl t ↦ let lt =
+                ltb-true _ _ t in rw (not_one, not_two, not_three, t) (inr (inr (inr (inl (writes 4 7 v (16 * v + 7) refl (omega arith))))))
             | inr not_four ↦ rw (not_one, not_two, not_three, not_four) (inr (inr (inr (inr (refl, refl, sym (reads_back 4 v h))))))
           ]
         ]
@@ -208,7 +227,9 @@ chosen_len false xs ys m n p q = q
 
 pub short_len : (v : ℕ) → length (short_uint v) ≡ short_size v
 unfolding short_uint
-short_len v = chosen_len (ltb v (2 ^ 7)) _ _ 1 _ refl (chosen_len (ltb v (2 ^ 14)) _ _ 2 _ refl (chosen_len (ltb v (2 ^ 21)) _ _ 3 _ refl (chosen_len (ltb v (2 ^ 28)) _ _ 4 _ refl refl)))
+short_len v =
+    chosen_len (ltb v (2 ^ 7)) _ _ 1 _ refl
+    (chosen_len (ltb v (2 ^ 14)) _ _ 2 _ refl (chosen_len (ltb v (2 ^ 21)) _ _ 3 _ refl (chosen_len (ltb v (2 ^ 28)) _ _ 4 _ refl refl)))
 
 cond_le : (b : Bool) (m n k : ℕ) → m ≤ k → n ≤ k → cond b m n ≤ k
 cond_le true m n k p q = p
@@ -221,19 +242,29 @@ pub size_two : (v : ℕ) → v < 2 ^ 14 → short_size v ≤ 2
 size_two v h = rw (lt-ltb v (2 ^ 14) h) (cond_le (ltb v (2 ^ 7)) 1 2 2 (omega arith) (omega arith))
 
 pub size_three : (v : ℕ) → v < 2 ^ 21 → short_size v ≤ 3
-size_three v h = rw (lt-ltb v (2 ^ 21) h) (cond_le (ltb v (2 ^ 7)) 1 _ 3 (omega arith) (cond_le (ltb v (2 ^ 14)) 2 3 3 (omega arith) (omega arith)))
+size_three v h =
+    rw (lt-ltb v (2 ^ 21) h) (cond_le (ltb v (2 ^ 7)) 1 _ 3 (omega arith) (cond_le (ltb v (2 ^ 14)) 2 3 3 (omega arith) (omega arith)))
 
 pub size_four : (v : ℕ) → v < 2 ^ 28 → short_size v ≤ 4
-size_four v h = rw (lt-ltb v (2 ^ 28) h) (cond_le (ltb v (2 ^ 7)) 1 _ 4 (omega arith) (cond_le (ltb v (2 ^ 14)) 2 _ 4 (omega arith) (cond_le (ltb v (2 ^ 21)) 3 4 4 (omega arith) (omega arith))))
+size_four v h =
+    rw (lt-ltb v (2 ^ 28) h)
+    (cond_le (ltb v (2 ^ 7)) 1 _ 4 (omega arith)
+    (cond_le (ltb v (2 ^ 14)) 2 _ 4 (omega arith) (cond_le (ltb v (2 ^ 21)) 3 4 4 (omega arith) (omega arith))))
 
 pub size_five : (v : ℕ) → short_size v ≤ 5
-size_five v = cond_le (ltb v (2 ^ 7)) 1 _ 5 (omega arith) (cond_le (ltb v (2 ^ 14)) 2 _ 5 (omega arith) (cond_le (ltb v (2 ^ 21)) 3 _ 5 (omega arith) (cond_le (ltb v (2 ^ 28)) 4 5 5 (omega arith) (omega arith))))
+size_five v =
+    cond_le (ltb v (2 ^ 7)) 1 _ 5 (omega arith)
+    (cond_le (ltb v (2 ^ 14)) 2 _ 5 (omega arith)
+    (cond_le (ltb v (2 ^ 21)) 3 _ 5 (omega arith) (cond_le (ltb v (2 ^ 28)) 4 5 5 (omega arith) (omega arith))))
 
 pub size_some : (v : ℕ) → 1 ≤ short_size v
-size_some v = at_least (ltb v (2 ^ 7)) 1 _ (omega arith) (at_least (ltb v (2 ^ 14)) 2 _ (omega arith) (at_least (ltb v (2 ^ 21)) 3 _ (omega arith) (at_least (ltb v (2 ^ 28)) 4 5 (omega arith) (omega arith)))) where
-  at_least : (b : Bool) (m n : ℕ) → 1 ≤ m → 1 ≤ n → 1 ≤ cond b m n
-  at_least true m n p q = p
-  at_least false m n p q = q
+size_some v =
+    at_least (ltb v (2 ^ 7)) 1 _ (omega arith)
+    (at_least (ltb v (2 ^ 14)) 2 _ (omega arith)
+    (at_least (ltb v (2 ^ 21)) 3 _ (omega arith) (at_least (ltb v (2 ^ 28)) 4 5 (omega arith) (omega arith)))) where
+      at_least : (b : Bool) (m n : ℕ) → 1 ≤ m → 1 ≤ n → 1 ≤ cond b m n
+      at_least true m n p q = p
+      at_least false m n p q = q
 
 shifted_below : (n mark v : ℕ) (s : List ℕ) → IsBytes s → IsShifted n mark v s → 2 ^ n * v + mark < 256 ^ n
 shifted_below n mark v s bytes h = rw h.1 at (little_from-lt 0 n s bytes)
@@ -295,7 +326,7 @@ part_between before part rest =
     let size : length before + length part - length before ≡ length part = omega arith in
     rw (append_assoc, drop-append_seam, size, take-append_seam) refl
 
--- the shortest spelling is read again behind whatever bytes, and whatever follows
+-- the shortest spelling is read again after whatever bytes, and whatever follows
 pub short_again : (v : ℕ) (before rest : List ℕ) → v < 2 ^ 32
     → IsUintBetween (before ++ short_uint v ++ rest) (length before) v (length before + length (short_uint v))
 short_again v before rest h = record {

@@ -1,9 +1,10 @@
--- What is written is read back where it stands, whatever is before and after it.
-use Rattle.std.specs.Prelude.{◌≡◌, ℕ, ◌+◌, ◌<◌, ◌≤◌, ◌^◌, List, ◌++◌, length, drop, Some}
+-- What is written is read back where it is written, whatever is before and after it.
+use Rattle.std.specs.Prelude.{◌≡◌, ℕ, ◌+◌, ◌*◌, ◌<◌, ◌≤◌, ◌^◌, List, ◌++◌, length, drop, sum_by, Some}
 use Rattle.std.specs.List.{AllByRecursion}
 use Rattle.native_format.specs.declared.nibbles.SlotRef.{SlotRef}
 use Rattle.native_format.specs.declared.sparse.Element.{Element}
 use Rattle.native_format.specs.Nibbles.{FitsWords, IsSlotList, list_at, list_bytes}
+use Rattle.native_format.specs.Sparse.{blocks_of}
 use Rattle.native_format.specs.SparseBytes.{AreElements, HoldsElements, sparse_bytes}
 use Rattle.native_format.specs.Uint.{short_uint, uint_at}
 
@@ -16,3 +17,13 @@ pub record WrittenIsRead : Type 0 where
       → length (sparse_bytes count elements) < 2 ^ 24 → HoldsElements (sparse_bytes count elements ++ rest) count elements
   -- an array has its header at least
   pub some : (count : ℕ) (elements : List Element) → 1 ≤ length (sparse_bytes count elements)
+
+-- How long what is written can be, from counts alone.
+pub record LengthsAreBounded : Type 0 where
+  -- five bytes at most for a native integer
+  pub integers : (value : ℕ) → length (short_uint value) ≤ 5
+  -- 17 for each slot of a list, and 2 more
+  pub lists : (list : List SlotRef) → AllByRecursion FitsWords list → length (list_bytes list) ≤ 17 * length list + 2
+  -- 5 for an array, 5 for each of its blocks, and 20 for each element beside its content
+  pub arrays : (count : ℕ) (elements : List Element)
+      → length (sparse_bytes count elements) ≤ 5 + 5 * blocks_of count + sum_by (λ e. 20 + length e.content) elements

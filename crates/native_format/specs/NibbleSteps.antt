@@ -1,5 +1,5 @@
 -- What the readers of nibble lists answer.
-use Rattle.std.specs.Prelude.{◌≡◌, ℕ, ◌*◌, ◌^◌, ◌<◌, ◌≤◌, List, [], ◌∷◌, length, ◌-◌, drop, Option, Some, None, Result, Ok, Err}
+use Rattle.std.specs.Prelude.{◌≡◌, ℕ, ◌*◌, ◌^◌, ◌<◌, ◌≤◌, List, [], ◌∷◌, length, drop, Option, Some, None, Result, Ok, Err}
 use Rattle.std.specs.Option.{option_map}
 use Rattle.native_format.specs.declared.nibbles.SlotRef.{SlotRef}
 use Rattle.native_format.specs.declared.nibbles.Next.{Next}
@@ -23,7 +23,7 @@ pub record ReadsNumber (bytes : List ℕ) (at v after : ℕ) : Type 0 where
   pub fits : v < 2 ^ 32
   pub numbers_are : numbers_from bytes at ≡ v ∷ numbers_from bytes after
 
--- a slot was read, and what is read of others comes behind it
+-- a slot was read, and what is read of others comes after it
 pub record ReadsSlot (bytes : List ℕ) (list : Option (List SlotRef)) (at : ℕ) (slot : SlotRef) (after : ℕ) : Type 0 where
   pub further : at < after
   pub within : after ≤ 2 * length bytes

@@ -1,5 +1,6 @@
 -- Lists of import slots, as streams of nibbles (ReadyToRun File Format, "Fixups").
-use Rattle.std.specs.Prelude.{◌≡◌, ℕ, zero, suc, ◌+◌, ◌*◌, ◌-◌, ◌/◌, ◌%◌, ◌^◌, ◌<◌, ◌⊎◌, ◌==◌, ◌&&◌, Bool, List, [], ◌∷◌, ◌++◌, map, drop, Option, Some, None, Result, Ok, Err, nat_lt, if◌then◌else◌}
+use Rattle.std.specs.Prelude.{◌≡◌, ℕ, zero, suc, ◌+◌, ◌*◌, ◌-◌, ◌/◌, ◌%◌, ◌^◌, ◌<◌, ◌⊎◌, ◌==◌, ◌&&◌, Bool, List, [], ◌∷◌, ◌++◌, map, drop}
+use Rattle.std.specs.Prelude.{Option, Some, None, Result, Ok, Err, nat_lt, if◌then◌else◌}
 use Rattle.std.specs.List.{flat_map}
 use Rattle.std.specs.Option.{option_map}
 use Rattle.std.specs.Int.Digits.{digits_of}
@@ -76,8 +77,10 @@ slots_behind last [] = None
 slots_behind last (zero ∷ []) = None
 slots_behind last (zero ∷ zero ∷ ns) = Some []
 slots_behind last (zero ∷ suc d ∷ []) = None
-slots_behind last (zero ∷ suc d ∷ slot ∷ ns) = with_first (at_slot (last.section + suc d) slot) (slots_behind (at_slot (last.section + suc d) slot) ns)
-slots_behind last (suc d ∷ ns) = with_first (at_slot last.section (last.slot + suc d)) (slots_behind (at_slot last.section (last.slot + suc d)) ns)
+slots_behind last (zero ∷ suc d ∷ slot ∷ ns) =
+    with_first (at_slot (last.section + suc d) slot) (slots_behind (at_slot (last.section + suc d) slot) ns)
+slots_behind last (suc d ∷ ns) =
+    with_first (at_slot last.section (last.slot + suc d)) (slots_behind (at_slot last.section (last.slot + suc d)) ns)
 
 unfoldable pub slots_of : List ℕ → Option (List SlotRef)
 slots_of [] = None
@@ -88,7 +91,7 @@ slots_of (section ∷ slot ∷ ns) = with_first (at_slot section slot) (slots_be
 abbrev pub list_at : List ℕ → ℕ → Option (List SlotRef)
 list_at bytes at = slots_of (numbers (nibbles (drop at bytes)))
 
--- what a reader answered is the list that stands there, or that there is none, unless memory ran out
+-- what a reader answered is the list that is there, or that there is none, unless memory ran out
 abbrev pub Refuses : ListRefusal → Option (List SlotRef) → Type 0
 Refuses refusals.Malformed list = list ≡ None
 Refuses refusals.NoMemory list = Unit {0}

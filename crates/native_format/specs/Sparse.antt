@@ -1,5 +1,6 @@
 -- Sparse arrays (ReadyToRun File Format, "NativeArray").
-use Rattle.std.specs.Prelude.{ℕ, ◌+◌, ◌*◌, ◌/◌, ◌%◌, ◌^◌, ◌==◌, ◌&&◌, not, Bool, List, [], ◌∷◌, length, Option, Some, None, Result, Ok, Err, nat_le, nat_lt, if◌then◌else◌}
+use Rattle.std.specs.Prelude.{ℕ, ◌+◌, ◌*◌, ◌/◌, ◌%◌, ◌^◌, ◌≤◌, ◌==◌, ◌&&◌, not, Bool, List, [], ◌∷◌, length, Option, Some, None, Result, Ok}
+use Rattle.std.specs.Prelude.{Err, nat_le, nat_lt, if◌then◌else◌}
 use Rattle.std.specs.Option.{option_and_then}
 use Rattle.rtr_bytes.specs.declared.fault.Fault.{Fault}
 use Rattle.rtr_bytes.specs.Field.{field_at}
@@ -35,14 +36,14 @@ abbrev pub header_fault : ℕ → Fault
 header_fault at = record { check = 63; place = at }
 
 -- what is found of an index: the place of the content, nothing, or a node or entry that is cut or names a
--- place outside, which is a place behind the end
+-- place outside, which is a place after the end
 abbrev pub Answer : Type 0
 Answer = Result (Option ℕ) Fault
 
 abbrev pub broken : {X : Type 0} → ℕ → Result X Fault
 broken at = Err (record { check = 64; place = at })
 
--- Where a node leads that is asked for a bit. Its number has a child for a clear bit, behind it, where bit 0
+-- Where a node leads that is asked for a bit. Its number has a child for a clear bit, after it, where bit 0
 -- is set; one for a set bit, as far from the node's start as the bits from 2 on say, where bit 1 is set; with
 -- neither it is a single element, whose number in the block those bits are.
 abbrev pub step_of : List ℕ → ℕ → Bool → ℕ → Option (ℕ × ℕ) → Result Step Fault
@@ -81,8 +82,15 @@ entry_place a index = a.index_at + a.entry_size * (index / 16)
 abbrev pub in_block : Array → ℕ → Option ℕ → Answer
 in_block a index None = broken (entry_place a index)
 in_block a index (Some distance) =
-    if nat_le (a.index_at + distance) (length a.bytes) then path a.bytes (index % 16) weights (a.index_at + distance) else broken (entry_place a index)
+    if nat_le (a.index_at + distance) (length a.bytes) then path a.bytes (index % 16) weights (a.index_at + distance) else broken
+    (entry_place a index)
 
 -- the element of an index
 unfoldable pub element_of : Array → ℕ → Answer
 element_of a index = if nat_lt index a.count then in_block a index (field_at a.entry_size a.bytes (entry_place a index)) else Ok None
+
+-- a place that is answered is in so many bytes, or is their end
+abbrev pub IsWithin : ℕ → Answer → Type 0
+IsWithin size (Ok None) = Unit {0}
+IsWithin size (Ok (Some place)) = place ≤ size
+IsWithin size (Err fault) = fault.place ≤ size

@@ -1,6 +1,7 @@
 -- The bytes of a sparse array as the writer lays them out: entries of four bytes, whole trees, and the node
 -- 64 for an empty block.
-use Rattle.std.specs.Prelude.{◌≡◌, ℕ, ◌+◌, ◌*◌, ◌<◌, ◌≤◌, ◌^◌, ◌==◌, List, [], ◌∷◌, ◌++◌, length, map, take, drop, get_or, Option, Some, None, Ok, nat_lt, if◌then◌else◌, unwrap_or}
+use Rattle.std.specs.Prelude.{◌≡◌, ℕ, ◌+◌, ◌*◌, ◌<◌, ◌≤◌, ◌^◌, ◌==◌, List, [], ◌∷◌, ◌++◌, length, map, take, drop, get_or, Option, Some}
+use Rattle.std.specs.Prelude.{None, Ok, nat_lt, if◌then◌else◌, unwrap_or}
 use Rattle.std.specs.List.{range_with_len, flat_map}
 use Rattle.byteorder.specs.Endian.{little_bytes}
 use Rattle.native_format.specs.declared.sparse.Element.{Element}
@@ -19,7 +20,7 @@ content_by_index (e ∷ es) index = if e.index == index then Some e.content else
 
 -- ---- what the bytes hold
 
--- a content stands at a place
+-- a content is at a place
 pub record StandsAt (bytes : List ℕ) (place : ℕ) (content : List ℕ) : Type 0 where
   pub front : List ℕ
   pub behind : List ℕ

@@ -1,5 +1,6 @@
--- How long a written sparse array is, and where its contents stand, from the lengths of the contents alone.
-use Rattle.std.specs.Prelude.{◌≡◌, ℕ, ◌+◌, ◌-◌, ◌*◌, ◌/◌, ◌%◌, ◌<◌, ◌^◌, ◌==◌, min, Bool, List, [], ◌∷◌, length, map, take, drop, get_or, sum_by, Option, Some, None, Ok, nat_lt, if◌then◌else◌, unwrap_or}
+-- How long a written sparse array is, and where its contents are, from the lengths of the contents alone.
+use Rattle.std.specs.Prelude.{◌≡◌, ℕ, ◌+◌, ◌-◌, ◌*◌, ◌/◌, ◌%◌, ◌<◌, ◌^◌, ◌==◌, min, Bool, List, [], ◌∷◌, length, map, take, drop, get_or}
+use Rattle.std.specs.Prelude.{sum_by, Option, Some, None, Ok, nat_lt, if◌then◌else◌, unwrap_or}
 use Rattle.std.specs.List.{range_with_len}
 use Rattle.std.specs.Option.{option_map}
 use Rattle.native_format.specs.declared.sparse.Element.{Element}
@@ -68,7 +69,7 @@ block_at lengths k = lengths_from lengths (16 * k) 16
 unfoldable pub blocks_len : Lengths → ℕ → ℕ
 blocks_len lengths n = sum_by (λ k. block_len (block_at lengths k)) (range_with_len 0 n)
 
--- what stands before the blocks: the header, and an index of four bytes a block
+-- what is before the blocks: the header, and an index of four bytes a block
 abbrev pub front_len : ℕ → ℕ
 front_len count = length (short_uint (4 * count + 2)) + 4 * blocks_of count
 
@@ -93,7 +94,8 @@ place_in (weight ∷ lower) low slots =
 unfoldable pub content_place : ℕ → Lengths → ℕ → Option ℕ
 content_place count lengths index =
     if nat_lt index count
-    then option_map (λ place. front_len count + blocks_len lengths (index / 16) + place) (place_in weights (index % 16) (block_at lengths (index / 16)))
+    then option_map (λ place. front_len count + blocks_len lengths (index / 16) + place)
+    (place_in weights (index % 16) (block_at lengths (index / 16)))
     else None
 
 -- bytes that begin with an array of this count have each content at its place, and nothing of another index

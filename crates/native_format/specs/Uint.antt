@@ -1,5 +1,6 @@
 -- Native integers (ReadyToRun File Format, "Native Format").
-use Rattle.std.specs.Prelude.{◌≡◌, ℕ, ◌+◌, ◌*◌, ◌-◌, ◌/◌, ◌%◌, ◌^◌, ◌≤◌, ◌⊎◌, ◌==◌, List, ◌∷◌, length, take, drop, slice_index, Option, Some, None, nat_le, nat_lt, if◌then◌else◌}
+use Rattle.std.specs.Prelude.{◌≡◌, ℕ, ◌+◌, ◌*◌, ◌-◌, ◌/◌, ◌%◌, ◌^◌, ◌≤◌, ◌⊎◌, ◌==◌, List, ◌∷◌, length, take, drop, slice_index, Option}
+use Rattle.std.specs.Prelude.{Some, None, nat_le, nat_lt, if◌then◌else◌}
 use Rattle.std.specs.Option.{option_map}
 use Rattle.byteorder.specs.Endian.{little_number, little_bytes}
 
@@ -11,7 +12,7 @@ IsShifted n mark v s = (length s ≡ n) × (little_number n s ≡ 2 ^ n * v + ma
 abbrev pub IsLong : ℕ → List ℕ → Type 0
 IsLong v s = (length s ≡ 5) × (slice_index s 0 % 16 ≡ 15) × (v ≡ little_number 4 (drop 1 s))
 
--- s spells v, in the form that the low bits of its first byte tell: 0, 01, 011, 0111 or 1111
+-- s spells v, in the form that the low bits of its first byte name: 0, 01, 011, 0111 or 1111
 abbrev pub IsUint : ℕ → List ℕ → Type 0
 IsUint v s = IsShifted 1 0 v s ⊎ (IsShifted 2 1 v s ⊎ (IsShifted 3 3 v s ⊎ (IsShifted 4 7 v s ⊎ IsLong v s)))
 

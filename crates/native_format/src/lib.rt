@@ -1,6 +1,7 @@
-//! Native integers, sparse arrays and nibble lists, the leaves of the ReadyToRun part, read and written.
+//! Native integers, sparse arrays and nibble lists, read and written (ReadyToRun File Format, "Native Format").
 //!
-//! Each format has one definition in `specs/`, and a reader and a writer that are proved against it.
+//! Each format has one definition in `specs/`, and a reader and a writer that are proved against it. A length of what a
+//! writer gives needs no memory ([`uint_len`], [`nibbles_len`], [`SparseLength`]).
 #![tactic(auto)]
 
 mod laws;
@@ -14,7 +15,7 @@ mod sparse_reader;
 mod sparse_writer;
 mod uint;
 
-pub use laws::{lengths_decide_places, written_is_read};
+pub use laws::{lengths_are_bounded, lengths_decide_places, written_is_read};
 pub use nibble_length::nibbles_len;
 pub use nibble_reader::{SlotReader, read_nibbles};
 pub use nibble_writer::{fewest_groups, write_nibbles};

@@ -48,7 +48,7 @@ fn count_after(first: SlotRef, others: &[SlotRef]) -> u128
 }
 
 /// How many bytes [`write_nibbles`](crate::write_nibbles) gives for a list of slots, and `u64::MAX` where they are more.
-/// It takes no memory.
+/// The list has a slot, and ascends strictly by section and then by slot. It takes no memory.
 pub fn nibbles_len(list: &[SlotRef]) -> u64
     requires { IsSlotList list.now }
     ensures { result ≡ capped (length (list_bytes list.now)) }

@@ -90,7 +90,7 @@ impl<'a> Model for SlotReader<'a> {
 }
 
 impl<'a> SlotReader<'a> {
-    /// Reads the list whose nibbles begin at a file offset.
+    /// Begins to read the list whose nibbles begin at a file offset, which may be after the end.
     pub fn new(bytes: &'a [u8], at: u32) -> SlotReader<'a>
         requires { length bytes.now ≤ 2 ^ 31 }
         ensures { result.list ≡ list_at bytes.now at }
@@ -135,8 +135,9 @@ fn list_from(alloc: Global, bytes: &[u8], at: u32) -> Result<Vec<SlotRef>, ListR
     Ok(list)
 }
 
-/// The list of slots whose nibbles begin at a place. Numbers with leading zero groups are read too.
-/// `Malformed` exactly where the stream is cut, or a number or a sum passes 32 bits.
+/// The list of slots whose nibbles begin at a file offset (ReadyToRun File Format, "Fixups"). Numbers with leading zero
+/// groups are read too. `Malformed` exactly where the stream is cut, or a number or a sum passes 32 bits; `NoMemory` where
+/// memory for the list is refused.
 pub fn read_nibbles(alloc: Global, bytes: &[u8], at: u32) -> Result<Vec<SlotRef>, ListRefusal>
     requires { length bytes.now ≤ 2 ^ 31 }
     // What is read is spelled there, and what is spelled there is read, unless memory runs out.

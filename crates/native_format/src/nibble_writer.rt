@@ -118,7 +118,8 @@ fn put_list(out: &mut NibbleWriter, list: &[SlotRef]) -> Result<(), NoMemory>
     Ok(())
 }
 
-/// The spelling of a list of slots in the fewest nibbles; the rest of the last byte is 0.
+/// The spelling of a list of slots in the fewest nibbles (ReadyToRun File Format, "Fixups"); the rest of the last byte is 0.
+/// The list has a slot, and ascends strictly by section and then by slot. `Err` where memory is refused.
 pub fn write_nibbles(alloc: Global, list: &[SlotRef]) -> Result<Vec<u8>, NoMemory>
     requires { IsSlotList list.now }
     ensures exact { IfOk result (λ v. v.items ≡ list_bytes list.now) }

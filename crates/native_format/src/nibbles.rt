@@ -1,4 +1,4 @@
-//! Lists of import slots, spelled as nibbles.
+//! Lists of import slots, spelled as nibbles (ReadyToRun File Format, "Fixups").
 
 ghost use Rattle.std.specs.Prelude.{◌≡◌};
 ghost use Rattle.native_format.specs.declared.nibbles.ListRefusal.TheVariants as refusals;
@@ -6,7 +6,7 @@ ghost use Rattle.native_format.specs.declared.nibbles.ListRefusal.TheVariants as
 use std::alloc::AllocFailed;
 use thiserror::Error;
 
-/// A slot of an import section.
+/// A slot of an import section, by number.
 #[derive(Clone, Copy, Debug, PartialEq, Eq)]
 pub struct SlotRef {
     /// The number of the import section, from 0.
@@ -47,7 +47,7 @@ impl<T: Drop> From<AllocFailed<T>> for ListRefusal {
     }
 }
 
-/// What stands next in a list.
+/// What is next in a list.
 #[derive(Clone, Copy)]
 pub(crate) enum Next {
     /// A slot, and the place of the nibble after it.

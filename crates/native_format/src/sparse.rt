@@ -1,4 +1,4 @@
-//! Elements of sparse arrays, and what is asked of a node.
+//! Elements of sparse arrays (ReadyToRun File Format, "NativeArray"), and what is asked of a node.
 
 use rtr_bytes::Sequence;
 
@@ -8,7 +8,8 @@ pub(crate) const BLOCK_SIZE: u32 = 16;
 /// How many bytes an entry of a written index has.
 pub(crate) const ENTRY_SIZE: u64 = 4;
 
-/// The weights of the bits of an element's number in its block, from the root of the tree down.
+/// The weights of the bits of an element's number in its block, from the root of the tree down: a reader asks for the bits
+/// in this order.
 pub(crate) const WEIGHTS: [usize; 4] = [8, 4, 2, 1];
 
 /// Where a node of a block's tree leads.

@@ -1,10 +1,11 @@
 //! How long a sparse array is, from the lengths of its contents alone.
 
-ghost use Rattle.std.specs.Prelude.{◌≡◌, ◌≤◌, ◌<◌, ◌^◌, ◌+◌, ◌-◌, ◌*◌, ◌/◌, ◌++◌, [], ◌∷◌, List, ℕ, length, map};
+ghost use Rattle.std.specs.Prelude.{◌≡◌, ◌≤◌, ◌<◌, ◌^◌, ◌+◌, ◌-◌, ◌*◌, ◌/◌, ◌++◌, [], ◌∷◌, List, ℕ, Option, length, map};
 ghost use Rattle.std.specs.Option.{option_map};
 ghost use Rattle.native_format.specs.Sparse.{weights};
+ghost use Rattle.native_format.specs.SparseBytes.{tree};
 ghost use Rattle.native_format.specs.SparseLengths.{Lengths, Measure, Measures, block_len, blocks_len, capped, fork_len, front_len, node_len, sparse_len, tree_len};
-ghost use Rattle.native_format.specs.SparseSteps.{AreSlots};
+ghost use Rattle.native_format.specs.SparseSteps.{AreSlots, IsSmall};
 
 use crate::sparse::{BLOCK_SIZE, ENTRY_SIZE, WEIGHTS};
 use crate::uint::uint_len;
@@ -39,9 +40,12 @@ fn node_len(low: Option<u64>, high: Option<u64>) -> Option<u64>
 }
 
 /// How many bytes the tree over contents of these lengths has. The weights are those of the bits that are left.
-fn tree_len(lower: &[usize], slots: &[Option<u64>]) -> Option<u64>
+pub(crate) fn tree_len(lower: &[usize], slots: &[Option<u64>]) -> Option<u64>
     requires wide { AreSlots lower.now (length slots.now) }
-    ensures { option_map capped result ≡ option_map capped (tree_len lower.now slots.now) }
+    ensures exact { option_map capped result ≡ option_map capped (tree_len lower.now slots.now) }
+    // Of contents that are written.
+    ensures written { (contents : List (Option (List ℕ))) → slots.now ≡ map (option_map length) contents
+        → IsSmall (tree lower.now contents) → result ≡ option_map length (tree lower.now contents) }
 {
     let [weight, lower @ ..] = lower else {
         return slots[0];

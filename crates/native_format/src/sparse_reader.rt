@@ -1,17 +1,14 @@
-//! The reader of sparse arrays.
+//! The reader of sparse arrays (ReadyToRun File Format, "NativeArray").
 
 ghost use Rattle.std.specs.Prelude.{◌≡◌, ◌≤◌, ◌<◌, ◌^◌, ◌+◌, ◌*◌, ◌%◌, ◌==◌, if◌then◌else◌, ℕ, Some, None, length, IfOk, IfErr};
 ghost use Rattle.rtr_bytes.specs.Field.{field_at};
-ghost use Rattle.native_format.specs.Sparse.{array_at, Array, blocks_of, element_of, header_fault, path, step_at, weights};
+ghost use Rattle.native_format.specs.Sparse.{array_at, Array, IsWithin, blocks_of, element_of, header_fault, path, step_at, weights};
 
-use crate::sparse::Step;
+use crate::sparse::{BLOCK_SIZE, Step, WEIGHTS};
 use crate::uint::read_uint;
 use byteorder::{ByteOrder, LittleEndian};
 use rtr_bytes::Fault;
 use std::marker::Model;
-
-/// The weights of the bits of an element's number in its block, in the order in which they are asked for.
-const WEIGHTS: [u32; 4] = [8, 4, 2, 1];
 
 /// The check that an array's header and index are whole, as `dump` prints it.
 const HEADER_CHECK: u16 = 63;
@@ -56,7 +53,7 @@ fn walk(bytes: &[u8], low: u32, block: u32) -> Result<Option<u32>, Fault>
 {
     let mut at = block;
     for weight in WEIGHTS {
-        match step(bytes, low, weight, at) {
+        match step(bytes, low, weight as u32, at) {
             Ok(Step::Child(next)) => at = next,
             Ok(Step::Content(place)) => return Ok(Some(place)),
             Ok(Step::Absent) => return Ok(None),
@@ -89,7 +86,7 @@ fn entry_size_of(header: u32) -> Option<u32>
 }
 
 /// A sparse array in a list of bytes, which keeps the bytes and what its header says. Contracts see it as
-/// the record of these.
+/// the record of these. It takes no memory.
 #[derive(Debug, Drop)]
 pub struct SparseArray<'a> {
     bytes: &'a [u8],
@@ -107,11 +104,12 @@ impl<'a> Model for SparseArray<'a> {
 }
 
 impl<'a> SparseArray<'a> {
-    /// The array whose header is at a place, which may be after the end. Check 63 at that place exactly
-    /// where the header or its index is cut, or the size of an entry is 3.
+    /// The array whose header is at a place of the bytes, which may be after the end. Check 63 at that place exactly
+    /// where the header or its index is cut, or the low two bits of the header, which give the size of an entry, are 3.
     pub fn read(bytes: &'a [u8], at: u32) -> Result<SparseArray<'a>, Fault>
         requires { length bytes.now ≤ 2 ^ 31 }
         ensures ok { IfOk result (λ array. array_at bytes.now at ≡ Some array) }
+        ensures bytes { IfOk result (λ array. array.bytes ≡ bytes.now) }
         ensures none { IfErr result (λ _. array_at bytes.now at ≡ None) }
         ensures place { IfErr result (λ fault. fault ≡ header_fault at) }
     {
@@ -125,7 +123,7 @@ impl<'a> SparseArray<'a> {
         let Some(entry_size) = entry_size_of(header) else {
             return Err(fault);
         };
-        let blocks = (header / 4 + 15) / 16;
+        let blocks = (header / 4).div_ceil(BLOCK_SIZE);
         if index_at as usize + (entry_size * blocks) as usize > bytes.len() {
             return Err(fault);
         }
@@ -144,17 +142,18 @@ impl<'a> SparseArray<'a> {
         self.count
     }
 
-    /// The place of an element's content. `None` where the element is absent, or its index is at or above the
-    /// count. Check 64 exactly where a node on its path, or its entry of the index, is cut or names a place
-    /// after the end, with that node's or entry's place. It takes one path, and no memory.
+    /// The place in the bytes of an element's content. `None` where the element is absent, or its index is at or above
+    /// the count. Check 64 exactly where a node on its path, or its entry of the index, is cut or names a place
+    /// after the end, with that node's or entry's place. It follows one path of four nodes at most.
     #[tactic(auto, unfolding(crate::specs::Sparse::element_of))]
     pub fn get(&self, index: u32) -> Result<Option<u32>, Fault>
-        ensures { result ≡ element_of self.now index }
+        ensures exact { result ≡ element_of self.now index }
+        ensures within { IsWithin (length self.now.bytes) result }
     {
         if index >= self.count {
             return Ok(None);
         }
-        let entry = self.index_at + self.entry_size * (index / 16);
+        let entry = self.index_at + self.entry_size * (index / BLOCK_SIZE);
         let distance = entry_at(self.bytes, self.entry_size, entry);
         let block = self.index_at as usize + distance as usize;
         if block > self.bytes.len() {
@@ -163,6 +162,6 @@ impl<'a> SparseArray<'a> {
                 place: entry,
             });
         }
-        walk(self.bytes, index % 16, block as u32)
+        walk(self.bytes, index % BLOCK_SIZE, block as u32)
     }
 }

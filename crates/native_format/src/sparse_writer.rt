@@ -1,15 +1,16 @@
-//! The writer of sparse arrays.
+//! The writer of sparse arrays (ReadyToRun File Format, "NativeArray").
 
 ghost use Rattle.std.specs.Prelude.{◌≡◌, ◌≤◌, ◌<◌, ◌^◌, ◌+◌, ◌*◌, ◌++◌, [], List, ℕ, Option, None, length, map, unwrap_or, IfOk, IfSome, OnOk};
 ghost use Rattle.std.specs.Option.{option_copied, option_map};
 ghost use Rattle.native_format.specs.Uint.{short_uint};
 ghost use Rattle.native_format.specs.Sparse.{weights};
 ghost use Rattle.native_format.specs.SparseBytes.{AreElements, HoldsElements, block_bytes, blocks, content_by_index, fork_number, index_bytes, joined, slots_from, sparse_bytes, tree};
-ghost use Rattle.native_format.specs.SparseLengths.{fork_len, node_len};
+ghost use Rattle.native_format.specs.SparseLengths.{node_len};
 ghost use Rattle.native_format.specs.SparseSteps.{AreSlots, SameFrom, IsSmall, IsShort, contents, head_of_node};
 
 use crate::sparse::{BLOCK_SIZE, Element, WEIGHTS};
-use crate::uint::{uint_len, write_uint};
+use crate::sparse_length::tree_len;
+use crate::uint::write_uint;
 use rtr_bytes::NoMemory;
 use std::alloc::Global;
 
@@ -41,46 +42,30 @@ fn fork_of(low: u32) -> u32
     }
 }
 
-/// How many bytes a node has with the trees below it, by how many each of them has.
-#[tactic(auto, unfolding(crate::specs::SparseLengths::fork_len))]
-fn node_len(low: Option<u32>, high: Option<u32>) -> Option<u32>
-    requires { IsShort (node_len low high) }
-    ensures { result ≡ node_len low high }
-{
-    match (low, high) {
-        (None, None) => None,
-        (Some(low), None) => Some(1 + low),
-        (None, Some(high)) => Some(1 + high),
-        (Some(low), Some(high)) => Some(uint_len(u64::from(fork_of(low))) as u32 + (low + high)),
-    }
-}
-
-/// How many bytes the tree over these slots has. The weights are those of the bits that are left.
-fn tree_len(lower: &[usize], slots: &[Slot<'_>]) -> Option<u32>
-    requires wide { AreSlots lower.now (length slots.now) }
-    requires small { IsSmall (tree lower.now (contents slots.now)) }
-    ensures { result ≡ option_map length (tree lower.now (contents slots.now)) }
-{
-    let [weight, lower @ ..] = lower else {
-        return content_len(slots[0]);
-    };
-    let low = tree_len(lower, &slots[..*weight]);
-    let high = tree_len(lower, &slots[*weight..]);
-    node_len(low, high)
-}
-
-fn content_len(slot: Slot<'_>) -> Option<u32>
-    requires { IsSmall (option_copied slot) }
+/// How many bytes the content of a slot has.
+fn content_len(slot: Slot<'_>) -> Option<u64>
     ensures { result ≡ option_map length (option_copied slot.entry) }
 {
     match slot {
         None => None,
-        Some(content) => Some(content.len() as u32),
+        Some(content) => Some(content.len() as u64),
     }
 }
 
+/// How many bytes the contents of a block have.
+fn content_lengths(slots: &[Slot<'_>]) -> [Option<u64>; 16]
+    requires { length slots.now ≡ 16 }
+    ensures { result ≡ map (option_map length) (contents slots.now) }
+{
+    let mut lengths = [None; 16];
+    for i in 0..16usize {
+        lengths[i] = content_len(slots[i]);
+    }
+    lengths
+}
+
 /// Appends the number of a node with the trees below it, by how many bytes each of them has.
-fn put_node(out: &mut Vec<u8>, low: Option<u32>, high: Option<u32>) -> Result<(), NoMemory>
+fn put_node(out: &mut Vec<u8>, low: Option<u64>, high: Option<u64>) -> Result<(), NoMemory>
     requires { IsShort (node_len low high) }
     ensures { OnOk result (out.new.items ≡ out.old.items ++ head_of_node low high) }
 {
@@ -88,14 +73,21 @@ fn put_node(out: &mut Vec<u8>, low: Option<u32>, high: Option<u32>) -> Result<()
         (None, None) => {}
         (Some(_), None) => write_uint(out, LOW_ONLY)?,
         (None, Some(_)) => write_uint(out, HIGH_ONLY)?,
-        (Some(len), Some(_)) => write_uint(out, fork_of(len))?,
+        (Some(len), Some(_)) => write_uint(out, fork_of(len as u32))?,
     }
     Ok(())
 }
 
-/// Appends the tree over these slots, or nothing where no slot has a content.
-fn put_tree(out: &mut Vec<u8>, lower: &[usize], slots: &[Slot<'_>]) -> Result<(), NoMemory>
+/// Appends the tree over these slots, or nothing where no slot has a content. The contents have these lengths.
+fn put_tree(
+    out: &mut Vec<u8>,
+    lower: &[usize],
+    slots: &[Slot<'_>],
+    lengths: &[Option<u64>],
+) -> Result<(), NoMemory>
     requires wide { AreSlots lower.now (length slots.now) }
+    requires many { length lengths.now ≡ length slots.now }
+    requires lengths { lengths.now ≡ map (option_map length) (contents slots.now) }
     requires small { IsSmall (tree lower.now (contents slots.now)) }
     ensures { OnOk result (out.new.items ≡ out.old.items ++ unwrap_or (tree lower.now (contents slots.now)) []) }
 {
@@ -103,11 +95,11 @@ fn put_tree(out: &mut Vec<u8>, lower: &[usize], slots: &[Slot<'_>]) -> Result<()
         put_content(out, slots[0])?;
         return Ok(());
     };
-    let low = &slots[..*weight];
-    let high = &slots[*weight..];
+    let low = &lengths[..*weight];
+    let high = &lengths[*weight..];
     put_node(out, tree_len(lower, low), tree_len(lower, high))?;
-    put_tree(out, lower, low)?;
-    put_tree(out, lower, high)?;
+    put_tree(out, lower, &slots[..*weight], low)?;
+    put_tree(out, lower, &slots[*weight..], high)?;
     Ok(())
 }
 
@@ -125,9 +117,10 @@ fn put_block(out: &mut Vec<u8>, slots: &[Slot<'_>]) -> Result<(), NoMemory>
     requires small { IsSmall (tree weights (contents slots.now)) }
     ensures { OnOk result (out.new.items ≡ out.old.items ++ block_bytes (contents slots.now)) }
 {
-    match tree_len(&WEIGHTS, slots) {
+    let lengths = content_lengths(slots);
+    match tree_len(&WEIGHTS, &lengths) {
         None => write_uint(out, EMPTY_BLOCK)?,
-        Some(_) => put_tree(out, &WEIGHTS, slots)?,
+        Some(_) => put_tree(out, &WEIGHTS, slots, &lengths)?,
     }
     Ok(())
 }
@@ -197,8 +190,10 @@ fn lay_out(alloc: Global, count: u32, elements: &[Element]) -> Result<(Vec<u8>, 
     Ok((index, body))
 }
 
-/// The bytes of a sparse array of a count with these elements, and no others. Its index entries have four
-/// bytes, each element's path has all four nodes, and an empty block is the node 64.
+/// The bytes of a sparse array of a count with these elements, and no others. The elements' indexes ascend strictly and
+/// are below the count, and the bytes are fewer than 2^24, which [`SparseLength`](crate::SparseLength) tests. An entry
+/// of the index has four bytes, each element's path has all four nodes, and an empty block is the node 64. `Err` where memory
+/// is refused.
 pub fn write_sparse(alloc: Global, count: u32, elements: &[Element]) -> Result<Vec<u8>, NoMemory>
     requires elements { AreElements 0 count elements.now }
     requires small { length (sparse_bytes count elements.now) < 2 ^ 24 }

@@ -1,4 +1,4 @@
-//! Native integers.
+//! Native integers (ReadyToRun File Format, "Native Format").
 
 ghost use Rattle.std.specs.Prelude.{◌≡◌, ◌≤◌, ◌<◌, ◌^◌, ◌+◌, ◌++◌, ℕ, List, Some, length, slice_index, IfSome, OnOk, OnErr};
 ghost use Rattle.native_format.specs.Uint.{IsUint, IsUintBetween, leading_uint, long, shifted, short_uint, uint_at};
@@ -58,8 +58,8 @@ fn uint_from(bytes: &[u8], at: u32) -> Option<(u32, u32)>
     Some((value, at + size))
 }
 
-/// The native integer at a place, in any of its five forms, and the place after it. `None` exactly where
-/// the bytes from there on begin with no whole integer.
+/// The native integer at a place of the bytes, in any of its five forms, and the place after it. `None` exactly where
+/// the bytes from there on begin with no whole integer, and so after the end. It takes no memory.
 pub fn read_uint(bytes: &[u8], at: u32) -> Option<(u32, u32)>
     requires { length bytes.now ≤ 2 ^ 31 }
     // What is read is spelled there, and what is spelled there is read.
@@ -71,7 +71,8 @@ pub fn read_uint(bytes: &[u8], at: u32) -> Option<(u32, u32)>
     uint_from(bytes, at)
 }
 
-/// How many bytes the shortest spelling of a native integer has. A number from 2^32 on has no spelling, and 5 bytes here.
+/// How many bytes the shortest spelling of a native integer has, 5 at most. A number from 2^32 on has no spelling, and
+/// 5 bytes here. It takes no memory.
 #[tactic(auto, unfolding(crate::specs::Uint::short_uint))]
 pub fn uint_len(value: u64) -> u64
     ensures exact { result ≡ length (short_uint value) }
@@ -90,7 +91,7 @@ pub fn uint_len(value: u64) -> u64
     }
 }
 
-/// Appends the shortest spelling of a native integer. An `Err` leaves `out` as it was.
+/// Appends the shortest spelling of a native integer. `Err` where memory is refused, and then `out` is as it was.
 #[tactic(auto, unfolding(crate::specs::Uint::short_uint))]
 pub fn write_uint(out: &mut Vec<u8>, value: u32) -> Result<(), NoMemory>
     ensures ok { OnOk result (out.new.items ≡ out.old.items ++ short_uint value) }
@@ -111,13 +112,13 @@ pub fn write_uint(out: &mut Vec<u8>, value: u32) -> Result<(), NoMemory>
     Ok(())
 }
 
-/// No spelling of a native integer begins another, whatever follows either: so what was written is read
-/// again, as the number that it was.
+/// The law that no spelling of a native integer begins another, whatever follows either: so what was written is read
+/// again, as the number that it was. Like each law the call does nothing when it runs.
 pub fn no_spelling_begins_another()
     ensures { (s t x y : List ℕ) (v w : ℕ) → IsUint v s → IsUint w t → s ++ x ≡ t ++ y → (s ≡ t) × (v ≡ w) }
 {}
 
-/// The shortest spelling spells its number, and no spelling of that number is shorter.
+/// The law of the spelling that [`write_uint`] writes: it spells its number, and no spelling of that number is shorter.
 pub fn shortest_spelling()
     ensures spells { (v : ℕ) → v < 2 ^ 32 → IsUint v (short_uint v) }
     ensures shortest { (v : ℕ) (s : List ℕ) → ((i : ℕ) → slice_index s i < 256) → IsUint v s → length (short_uint v) ≤ length s }

@@ -1,5 +1,6 @@
 -- The whole written file: what it promises follows from its pieces.
-use Rattle.std.proofs.Common.{◌≡◌, ℕ, ◌+◌, ◌-◌, ◌*◌, ◌^◌, ◌<◌, ◌≤◌, Bool, ◌||◌, List, [], ◌∷◌, ◌++◌, length, drop, map, Option, refl, sym, ap, subst, ◌∙◌, arith, inl, inr, lit<, append_assoc, length-append}
+use Rattle.std.proofs.Common.{◌≡◌, ℕ, ◌+◌, ◌-◌, ◌*◌, ◌^◌, ◌<◌, ◌≤◌, Bool, ◌||◌, List, [], ◌∷◌, ◌++◌, length, drop, map}
+use Rattle.std.proofs.Common.{Option, refl, sym, ap, subst, ◌∙◌, arith, inl, inr, lit<, append_assoc, length-append}
 use Rattle.std.specs.Prelude.{nat_le, if◌then◌else◌, ◌==◌, replicate, sum_by, All, unwrap_or}
 use Rattle.std.specs.List.{flat_map, AllZip}
 use Rattle.std.proofs.lemmas.Bool.{cases_Bool, leb-false, or_parts}
@@ -10,21 +11,27 @@ use Rattle.pe_image.specs.declared.section.PeSection.{PeSection}
 use Rattle.pe_image.specs.declared.values.HeaderValues.{HeaderValues}
 use Rattle.pe_image.specs.Sections.{section_at}
 use Rattle.pe_image.specs.Headers.{sections_of}
-use Rattle.pe_image.specs.Places.{aligned, highest_end, dat_rva, cod_rva, written_table_at, headers_end, dat_section, cod_section, all_sections, placed_from, end_from, raw_start, written_sections, AreLaid}
-use Rattle.pe_image.specs.Written.{IsWritable, section_alignment_of, resources_of, image_size, header_sizes, header_values, at, StandsIn, header_fields, table_fields, IsPaddedFrom, HasPadded}
+use Rattle.pe_image.specs.Places.{aligned, highest_end, dat_rva, cod_rva, written_table_at, headers_end, dat_section}
+use Rattle.pe_image.specs.Places.{cod_section, all_sections, placed_from, end_from, raw_start, written_sections}
+use Rattle.pe_image.specs.Places.{AreLaid}
+use Rattle.pe_image.specs.Written.{IsWritable, section_alignment_of, resources_of, image_size, header_sizes}
+use Rattle.pe_image.specs.Written.{header_values, at, StandsIn, header_fields, table_fields, IsPaddedFrom, HasPadded}
 use Rattle.pe_image.specs.Pieces.{header_bytes, section_bytes, file_of}
 use Rattle.pe_image.specs.Raw.{padded, raw_of, raw_parts}
-use Rattle.pe_image.proofs.PlacesLemmas.{aligned-512, aligned-65536, aligned-aligned, end_from-append, end_from-le, end_from-grows, length-placed_from, laid}
+use Rattle.pe_image.proofs.PlacesLemmas.{aligned-512, aligned-65536, aligned-aligned, end_from-append, end_from-le}
+use Rattle.pe_image.proofs.PlacesLemmas.{end_from-grows, length-placed_from, laid}
 use Rattle.pe_image.proofs.HeaderLemmas.{AreInRange, length-header_bytes, header_stands, dos_read}
 use Rattle.pe_image.proofs.TableLemmas.{HeadersFit, HeadersFit-append, HeadersFit-placed, length-table, table-is, table_stands}
-use Rattle.pe_image.proofs.RawLemmas.{Matches, Holds, AllWhole, HoldsPadded, length-padded, parts_padded, AllZip-each, held, has_padded, padded_front, length-parts, AllZip-append}
+use Rattle.pe_image.proofs.RawLemmas.{Matches, Holds, AllWhole, HoldsPadded, length-padded, parts_padded, AllZip-each}
+use Rattle.pe_image.proofs.RawLemmas.{held, has_padded, padded_front, length-parts, AllZip-append}
 use Rattle.pe_image.proofs.InputLemmas.{AreBytes, u32_below}
 use Rattle.pe_image.proofs.ReadBack.{HasHeaders, sections-are}
 
 -- ---- places and lengths
 
 pub end_below : (sections : List PeSection) (dat_len cod_len : ℕ)
-    → end_from (raw_start sections) (all_sections sections dat_len cod_len) ≤ headers_end (length sections + 2) + sum_by (λ s. s.raw_size) sections + dat_len + cod_len + 512 * (length sections + 3)
+    → end_from (raw_start sections) (all_sections sections dat_len cod_len)
+    ≤ headers_end (length sections + 2) + sum_by (λ s. s.raw_size) sections + dat_len + cod_len + 512 * (length sections + 3)
 end_below sections dat_len cod_len =
     let more : List PeSection = dat_section sections dat_len ∷ cod_section sections dat_len cod_len ∷ [] in
     let start = aligned-512 (headers_end (length sections + 2)) in
@@ -170,7 +177,8 @@ file_headers_padded sections bytes dat cod cli p =
 
 -- each part is at its place, padded
 held_padded : (sections : List PeSection) (bytes dat cod : List ℕ) (cli : ℕ) → Parts sections bytes dat cod cli
-    → AllZip (HoldsPadded (the_file sections bytes dat cod cli)) (placed_from (raw_start sections) (all_sections sections (length dat) (length cod))) (raw_parts sections bytes dat cod)
+    → AllZip (HoldsPadded (the_file sections bytes dat cod cli))
+    (placed_from (raw_start sections) (all_sections sections (length dat) (length cod))) (raw_parts sections bytes dat cod)
 unfolding file_of written_sections
 held_padded sections bytes dat cod cli p =
     let v = header_values sections bytes (length dat) (length cod) cli in
@@ -184,7 +192,8 @@ held_padded sections bytes dat cod cli p =
     subst P size (parts_padded all parts head (all_match bytes dat cod sections p.raw))
 
 pub file_holds : (sections : List PeSection) (bytes dat cod : List ℕ) (cli : ℕ) → Parts sections bytes dat cod cli
-    → AllZip (Holds (the_file sections bytes dat cod cli)) (placed_from (raw_start sections) (all_sections sections (length dat) (length cod))) (raw_parts sections bytes dat cod)
+    → AllZip (Holds (the_file sections bytes dat cod cli))
+    (placed_from (raw_start sections) (all_sections sections (length dat) (length cod))) (raw_parts sections bytes dat cod)
 file_holds sections bytes dat cod cli p =
     let out = the_file sections bytes dat cod cli in
     AllZip-each (HoldsPadded out) (Holds out) (placed_from (raw_start sections) (all_sections sections (length dat) (length cod)))
@@ -261,7 +270,8 @@ file_has sections bytes dat cod cli p =
 
 -- the section headers begin at 328
 table_at : (sections : List PeSection) (bytes dat cod : List ℕ) (cli : ℕ) → Parts sections bytes dat cod cli
-    → (rest : List ℕ) × (drop 328 (the_file sections bytes dat cod cli) ≡ flat_map section_bytes (placed_from (raw_start sections) (all_sections sections (length dat) (length cod))) ++ rest)
+    → (rest : List ℕ) × (drop 328 (the_file sections bytes dat cod cli)
+    ≡ flat_map section_bytes (placed_from (raw_start sections) (all_sections sections (length dat) (length cod))) ++ rest)
 unfolding written_sections
 table_at sections bytes dat cod cli p =
     let v = header_values sections bytes (length dat) (length cod) cli in
@@ -284,7 +294,8 @@ file_sections sections bytes dat cod cli p =
 
 -- number by number
 pub file_table : (sections : List PeSection) (bytes dat cod : List ℕ) (cli : ℕ) → Parts sections bytes dat cod cli
-    → All (StandsIn (the_file sections bytes dat cod cli)) (table_fields written_table_at (written_sections sections (length dat) (length cod)))
+    → All (StandsIn (the_file sections bytes dat cod cli))
+    (table_fields written_table_at (written_sections sections (length dat) (length cod)))
 unfolding written_sections
 file_table sections bytes dat cod cli p =
     let out = the_file sections bytes dat cod cli in
@@ -296,7 +307,8 @@ file_table sections bytes dat cod cli p =
 
 -- the bytes of each section, padded
 pub file_padded : (sections : List PeSection) (bytes dat cod : List ℕ) (cli : ℕ) → Parts sections bytes dat cod cli
-    → AllZip (HasPadded (the_file sections bytes dat cod cli)) (sections_of (the_file sections bytes dat cod cli)) (raw_parts sections bytes dat cod)
+    → AllZip (HasPadded (the_file sections bytes dat cod cli)) (sections_of (the_file sections bytes dat cod cli))
+    (raw_parts sections bytes dat cod)
 file_padded sections bytes dat cod cli p =
     let out = the_file sections bytes dat cod cli in
     let placed = placed_from (raw_start sections) (all_sections sections (length dat) (length cod)) in
@@ -305,7 +317,8 @@ file_padded sections bytes dat cod cli p =
     (AllZip-each (HoldsPadded out) (HasPadded out) placed parts (has_padded out) (held_padded sections bytes dat cod cli p))
 
 pub file_laid : (sections : List PeSection) (bytes dat cod : List ℕ) (cli : ℕ) → Parts sections bytes dat cod cli
-    → AreLaid (headers_end (length sections + 2)) (sections_of (the_file sections bytes dat cod cli)) (length (the_file sections bytes dat cod cli))
+    → AreLaid (headers_end (length sections + 2)) (sections_of (the_file sections bytes dat cod cli))
+    (length (the_file sections bytes dat cod cli))
 file_laid sections bytes dat cod cli p =
     let all = all_sections sections (length dat) (length cod) in
     let start = aligned-512 (headers_end (length sections + 2)) in

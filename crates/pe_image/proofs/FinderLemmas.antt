@@ -1,5 +1,7 @@
 -- The first section that passes a test, by halves of a run: in the first half if any there passes, and else in the second.
-use Rattle.std.proofs.Common.{◌≡◌, ℕ, zero, suc, ◌+◌, ◌*◌, ◌/◌, ◌<◌, ◌≤◌, cond, Bool, true, false, List, [], ◌∷◌, ◌++◌, length, take, drop, get_or, Option, Some, refl, sym, ap, subst, ◌∙◌, arith, inl, inr, add-one, length-append, length-take, length-drop}
+use Rattle.std.proofs.Common.{◌≡◌, ℕ, zero, suc, ◌+◌, ◌*◌, ◌/◌, ◌<◌, ◌≤◌, cond, Bool, true, false, List, [], ◌∷◌, ◌++◌}
+use Rattle.std.proofs.Common.{length, take, drop, get_or, Option, Some, refl, sym, ap, subst, ◌∙◌, arith, inl, inr}
+use Rattle.std.proofs.Common.{add-one, length-append, length-take, length-drop}
 use Rattle.std.specs.Prelude.{find, ◌||◌}
 use Rattle.std.specs.List.{list_any}
 use Rattle.std.specs.Option.{option_or}
@@ -82,7 +84,7 @@ level_at (level ∷ levels) sections (suc i) d h (first, more) = level_at levels
 double : (w j : ℕ) → w * j + w * j ≡ w * (j + j)
 double w j = omega arith
 
--- A level's half of the run at a place: twice its width is the run's, it begins at a multiple of its width, as what is behind it
+-- A level's half of the run at a place: twice its width is the run's, it begins at a multiple of its width, as what is after it
 -- does, and its stairs are among the level's where there are sections after it.
 pub record Half (steps : List Step) (sections : List PeSection) (left : List Level) (width at : ℕ) : Type 0 where
   pub twice : width ≡ width / 2 + width / 2
@@ -165,7 +167,7 @@ goes_on p steps sections all left width at stand h room none =
       found = in_second p (width / 2) at sections none ∙ ap (λ (t : ℕ). find p (take t (drop at sections))) (sym h.twice) ∙ stand.found;
     }
 
--- what the stairs tell, the run's sections do
+-- what the stairs say, the run's sections do
 pub answered : (rva len end size width from : ℕ) (steps : List Step) (run : List PeSection) (answer b : Bool) → end ≡ rva + len
     → size ≡ width
     → IsStairs (take width (drop from steps)) run → answer ≡ list_any (holds rva end) (take size (drop from steps)) → answer ≡ b

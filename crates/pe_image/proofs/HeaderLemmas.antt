@@ -1,5 +1,6 @@
 -- The headers up to the section table: each number is at its place.
-use Rattle.std.proofs.Common.{◌≡◌, ℕ, ◌+◌, ◌^◌, ◌<◌, ◌≤◌, Bool, true, ◌&&◌, List, [], ◌∷◌, ◌++◌, length, drop, Option, refl, ap, lit<, arith, length-append}
+use Rattle.std.proofs.Common.{◌≡◌, ℕ, ◌+◌, ◌^◌, ◌<◌, ◌≤◌, Bool, true, ◌&&◌, List, [], ◌∷◌, ◌++◌, length, drop, Option}
+use Rattle.std.proofs.Common.{refl, ap, lit<, arith, length-append}
 use Rattle.std.specs.Prelude.{All, unwrap_or, ◌==◌}
 use Rattle.std.proofs.lemmas.Bool.{and_parts, eqb-true}
 use Rattle.rtr_bytes.specs.declared.fault.Span.{Span}
@@ -8,7 +9,8 @@ use Rattle.pe_image.specs.declared.values.HeaderValues.{HeaderValues}
 use Rattle.pe_image.specs.declared.values.Sizes.{Sizes}
 use Rattle.pe_image.specs.Places.{written_table_at}
 use Rattle.pe_image.specs.Pieces.{header_bytes}
-use Rattle.pe_image.specs.Written.{HeaderField, at, coff_header, optional_header, dos_fields, coff_fields, optional_fields, directory_fields, header_fields, StandsIn, Covers}
+use Rattle.pe_image.specs.Written.{HeaderField, at, coff_header, optional_header, dos_fields, coff_fields}
+use Rattle.pe_image.specs.Written.{optional_fields, directory_fields, header_fields, StandsIn, Covers}
 use Rattle.pe_image.proofs.NumbersInARow.{AllFit, AllFit-append, field_stands, fields_stand, length-fields_bytes}
 
 -- the headers of so many sections, with these sizes and directories

@@ -1,5 +1,6 @@
 -- What is known of a well-formed input.
-use Rattle.std.proofs.Common.{◌≡◌, ℕ, zero, suc, ◌+◌, ◌*◌, ◌^◌, ◌<◌, ◌≤◌, Bool, true, false, List, [], ◌∷◌, length, drop, get_or, Option, Some, None, refl, arith, inl, inr, lit<, length-take, length-drop}
+use Rattle.std.proofs.Common.{◌≡◌, ℕ, zero, suc, ◌+◌, ◌*◌, ◌^◌, ◌<◌, ◌≤◌, Bool, true, false, List, [], ◌∷◌, length}
+use Rattle.std.proofs.Common.{drop, get_or, Option, Some, None, refl, arith, inl, inr, lit<, length-take, length-drop}
 use Rattle.std.specs.Prelude.{nat_le, if◌then◌else◌, ◌==◌, unwrap_or}
 use Rattle.std.specs.Option.{option_map}
 use Rattle.std.proofs.lemmas.Bool.{cases_lt, leb-true, eqb-true, or_cases}

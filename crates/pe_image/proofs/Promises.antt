@@ -6,14 +6,19 @@ use Rattle.pe_image.specs.declared.section.PeSection.{PeSection}
 use Rattle.pe_image.specs.declared.values.HeaderValues.{HeaderValues}
 use Rattle.pe_image.specs.declared.values.Sizes.{Sizes}
 use Rattle.pe_image.specs.Headers.{sections_of}
-use Rattle.pe_image.specs.Places.{dat_rva, cod_rva, written_table_at, highest_end, dat_section, cod_section, placed_from, headers_end, all_sections, end_from, raw_start, written_sections, written_length, length_bound, AreLaid}
-use Rattle.pe_image.specs.Written.{IsWritable, header_sizes, header_values, StandsIn, header_fields, table_fields, IsPaddedFrom, HasPadded, KeepsRanges, KeepsRaw, FindsPart, HasCliHeader, FailsLate, IsWellFormedWith}
+use Rattle.pe_image.specs.Places.{dat_rva, cod_rva, written_table_at, highest_end, dat_section, cod_section}
+use Rattle.pe_image.specs.Places.{placed_from, headers_end, all_sections, end_from, raw_start, written_sections}
+use Rattle.pe_image.specs.Places.{written_length, length_bound, AreLaid}
+use Rattle.pe_image.specs.Written.{IsWritable, header_sizes, header_values, StandsIn, header_fields, table_fields}
+use Rattle.pe_image.specs.Written.{IsPaddedFrom, HasPadded, KeepsRanges, KeepsRaw, FindsPart, HasCliHeader, FailsLate}
+use Rattle.pe_image.specs.Written.{IsWellFormedWith}
 use Rattle.pe_image.specs.Pieces.{file_of}
 use Rattle.pe_image.specs.Raw.{IsInFile, raw_parts}
 use Rattle.std.proofs.lemmas.List.Elements.{All-nil, All-cons}
 use Rattle.pe_image.proofs.PlacesLemmas.{aligned-65536}
 use Rattle.pe_image.proofs.InputLemmas.{AreBytes, IsInput, AllInFile, all_whole}
-use Rattle.pe_image.proofs.FileLemmas.{Parts, the_file, end_below, values_in_range, file_length, file_fields, file_sections, file_table, file_headers_padded, file_padded, file_laid}
+use Rattle.pe_image.proofs.FileLemmas.{Parts, the_file, end_below, values_in_range, file_length, file_fields}
+use Rattle.pe_image.proofs.FileLemmas.{file_sections, file_table, file_headers_padded, file_padded, file_laid}
 use Rattle.pe_image.proofs.RangeLemmas.{file_keeps, file_raw, file_dat, file_cod, file_cli_place, file_cli, file_late, file_well_formed}
 
 pub record IsWritten (sections : List PeSection) (bytes dat cod : List ℕ) (cli : ℕ) (out : List ℕ) : Type 0 where
@@ -75,7 +80,8 @@ written sections bytes dat cod cli out w fits input c e =
 
 -- ---- from the steps of the writer, whose list of sections is the input's
 
-pub joined_file : (ss sections : List PeSection) (bytes dat cod : List ℕ) (cli : ℕ) (v : HeaderValues) (dat_s cod_s : PeSection) (out : List ℕ)
+pub joined_file : (ss sections : List PeSection) (bytes dat cod : List ℕ) (cli : ℕ) (v : HeaderValues)
+    (dat_s cod_s : PeSection) (out : List ℕ)
     → ss ≡ sections → dat_s ≡ dat_section ss (length dat) → cod_s ≡ cod_section ss (length dat) (length cod)
     → v ≡ header_values ss bytes (length dat) (length cod) cli
     → out ≡ file_of v (placed_from (raw_start ss) (ss ++ dat_s ∷ cod_s ∷ [])) (raw_parts ss bytes dat cod)

@@ -1,5 +1,6 @@
 -- The ranges of RVAs of a written file.
-use Rattle.std.proofs.Common.{◌≡◌, ℕ, ◌+◌, ◌-◌, ◌^◌, ◌<◌, ◌≤◌, leb, cond, Bool, true, false, List, [], ◌∷◌, ◌++◌, length, take, drop, map, Option, Some, None, refl, sym, ap, subst, ◌∙◌, arith}
+use Rattle.std.proofs.Common.{◌≡◌, ℕ, ◌+◌, ◌-◌, ◌^◌, ◌<◌, ◌≤◌, leb, cond, Bool, true, false, List, [], ◌∷◌, ◌++◌}
+use Rattle.std.proofs.Common.{length, take, drop, map, Option, Some, None, refl, sym, ap, subst, ◌∙◌, arith}
 use Rattle.std.specs.Prelude.{nat_le, if◌then◌else◌, find, is_some, IsSome}
 use Rattle.std.specs.List.{AllZip}
 use Rattle.std.specs.Option.{option_map}
@@ -13,7 +14,8 @@ use Rattle.pe_image.specs.declared.section.PeSection.{PeSection}
 use Rattle.pe_image.specs.Sections.{has_range, slice_of_rva}
 use Rattle.pe_image.specs.Headers.{sections_of, place_of, cli_at, metadata_place, metadata_size}
 use Rattle.pe_image.specs.Checks.{cli_header_checks, pe_checks}
-use Rattle.pe_image.specs.Places.{aligned, highest_end, dat_rva, cod_rva, headers_end, dat_section, cod_section, all_sections, placed_from, end_from, raw_start}
+use Rattle.pe_image.specs.Places.{aligned, highest_end, dat_rva, cod_rva, headers_end, dat_section, cod_section}
+use Rattle.pe_image.specs.Places.{all_sections, placed_from, end_from, raw_start}
 use Rattle.pe_image.specs.Written.{HasRawOf, KeepsRanges, KeepsRaw, FindsPart}
 use Rattle.pe_image.specs.Raw.{raw_of, raw_parts}
 use Rattle.pe_image.proofs.PlacesLemmas.{aligned-512, aligned-65536, padded_before, placed_from-append, length-placed_from}
@@ -46,7 +48,8 @@ old_held sections bytes dat cod out dat_len cod_len h =
 
 new_held : (sections : List PeSection) (bytes dat cod out : List ℕ) (dat_len cod_len : ℕ)
     → AllZip (Holds out) (placed_from (raw_start sections) (all_sections sections dat_len cod_len)) (raw_parts sections bytes dat cod)
-    → AllZip (Holds out) (placed_from (end_from (raw_start sections) sections) (dat_section sections dat_len ∷ cod_section sections dat_len cod_len ∷ [])) (dat ∷ cod ∷ [])
+    → AllZip (Holds out) (placed_from (end_from (raw_start sections) sections)
+    (dat_section sections dat_len ∷ cod_section sections dat_len cod_len ∷ [])) (dat ∷ cod ∷ [])
 unfolding raw_parts
 new_held sections bytes dat cod out dat_len cod_len h =
     let more : List PeSection = dat_section sections dat_len ∷ cod_section sections dat_len cod_len ∷ [] in
@@ -109,7 +112,9 @@ file_raw sections bytes dat cod cli p =
 -- an RVA after the input's sections is looked up in the new ones
 looked_up : (sections : List PeSection) (bytes dat cod : List ℕ) (cli rva len : ℕ) → Parts sections bytes dat cod cli → 0 < len
     → highest_end sections ≤ rva
-    → slice_of_rva (sections_of (the_file sections bytes dat cod cli)) rva len ≡ slice_of_rva (placed_from (end_from (raw_start sections) sections) (dat_section sections (length dat) ∷ cod_section sections (length dat) (length cod) ∷ [])) rva len
+    → slice_of_rva (sections_of (the_file sections bytes dat cod cli)) rva len
+    ≡ slice_of_rva (placed_from (end_from (raw_start sections) sections)
+    (dat_section sections (length dat) ∷ cod_section sections (length dat) (length cod) ∷ [])) rva len
 looked_up sections bytes dat cod cli rva len p above behind =
     let more : List PeSection = dat_section sections (length dat) ∷ cod_section sections (length dat) (length cod) ∷ [] in
     ap (λ (t : List PeSection). slice_of_rva t rva len) (file_sections sections bytes dat cod cli p)
@@ -144,7 +149,8 @@ second s others rva len past =
     (and_right (leb s.rva rva) (leb (rva + len) (s.rva + s.raw_size)) (lt-leb (rva + len) (s.rva + s.raw_size) past))
 
 pub file_cod : (sections : List PeSection) (bytes dat cod : List ℕ) (cli : ℕ) → Parts sections bytes dat cod cli
-    → FindsPart (sections_of (the_file sections bytes dat cod cli)) (the_file sections bytes dat cod cli) (cod_rva sections (length dat)) cod
+    → FindsPart (sections_of (the_file sections bytes dat cod cli)) (the_file sections bytes dat cod cli)
+    (cod_rva sections (length dat)) cod
 file_cod sections bytes dat cod cli p =
     let out = the_file sections bytes dat cod cli in
     let at = end_from (raw_start sections) sections in
@@ -197,7 +203,8 @@ file_cli_place sections bytes dat cod cli p =
     f.1 ∙ ap (λ (t : ℕ). Some t) (sym (cli_at-is out (length sections + 2) cli f.0 (file_has sections bytes dat cod cli p) f.1))
 
 pub file_cli : (sections : List PeSection) (bytes dat cod : List ℕ) (cli : ℕ) → Parts sections bytes dat cod cli
-    → take 72 (drop (cli_at (the_file sections bytes dat cod cli)) (the_file sections bytes dat cod cli)) ≡ take 72 (drop (cli - dat_rva sections) dat)
+    → take 72 (drop (cli_at (the_file sections bytes dat cod cli)) (the_file sections bytes dat cod cli))
+    ≡ take 72 (drop (cli - dat_rva sections) dat)
 file_cli sections bytes dat cod cli p =
     let out = the_file sections bytes dat cod cli in
     let f = cli_found sections bytes dat cod cli p in
@@ -218,7 +225,8 @@ file_late sections bytes dat cod cli p f e =
 
 -- a field of the CLI header
 cli_field : (sections : List PeSection) (bytes dat cod : List ℕ) (cli j : ℕ) → Parts sections bytes dat cod cli → j + 4 ≤ 72
-    → u32_of (the_file sections bytes dat cod cli) (cli_at (the_file sections bytes dat cod cli) + j) ≡ u32_of dat (cli - dat_rva sections + j)
+    → u32_of (the_file sections bytes dat cod cli) (cli_at (the_file sections bytes dat cod cli) + j)
+    ≡ u32_of dat (cli - dat_rva sections + j)
 cli_field sections bytes dat cod cli j p fits =
     let out = the_file sections bytes dat cod cli in
     let low = p.writable.cli_in_dat.0 in
@@ -227,7 +235,8 @@ cli_field sections bytes dat cod cli j p fits =
 
 pub file_well_formed : (sections : List PeSection) (bytes dat cod : List ℕ) (cli : ℕ) → Parts sections bytes dat cod cli
     → 72 ≤ u32_of dat (cli - dat_rva sections)
-    → IsSome (place_of (the_file sections bytes dat cod cli) (u32_of dat (cli - dat_rva sections + 8)) (u32_of dat (cli - dat_rva sections + 12)))
+    → IsSome (place_of (the_file sections bytes dat cod cli) (u32_of dat (cli - dat_rva sections + 8))
+    (u32_of dat (cli - dat_rva sections + 12)))
     → first_fault pe_checks (the_file sections bytes dat cod cli) ≡ None
 file_well_formed sections bytes dat cod cli p cb found =
     let out = the_file sections bytes dat cod cli in

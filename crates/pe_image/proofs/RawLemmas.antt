@@ -1,5 +1,7 @@
 -- The raw bytes, found in the written file by their RVAs.
-use Rattle.std.proofs.Common.{◌≡◌, ℕ, ◌+◌, ◌-◌, ◌^◌, ◌<◌, ◌≤◌, leb, cond, Bool, true, false, List, [], ◌∷◌, ◌++◌, length, take, drop, map, Some, None, refl, sym, ap, subst, ◌∙◌, arith, append_assoc, length-append, length-drop, inl, inr}
+use Rattle.std.proofs.Common.{◌≡◌, ℕ, ◌+◌, ◌-◌, ◌^◌, ◌<◌, ◌≤◌, leb, cond, Bool, true, false, List, [], ◌∷◌, ◌++◌}
+use Rattle.std.proofs.Common.{length, take, drop, map, Some, None, refl, sym, ap, subst, ◌∙◌, arith, append_assoc}
+use Rattle.std.proofs.Common.{length-append, length-drop, inl, inr}
 use Rattle.std.specs.Prelude.{find, replicate}
 use Rattle.std.specs.List.{flat_map, AllZip}
 use Rattle.std.specs.Option.{option_map}
@@ -162,7 +164,8 @@ AllWhole bytes (s ∷ ss) = IsWhole bytes s × AllWhole bytes ss
 
 kept_here : (rva len place at : ℕ) (s : PeSection) (ss : List PeSection) (old new : List ℕ) → has_range rva len s ≡ true
     → place_in rva s ≡ place → Holds new (record s { raw_at = at }) (raw_of old s) → IsWhole old s
-    → (kept : ℕ) × (option_map (place_in rva) (find (has_range rva len) (record s { raw_at = at } ∷ ss)) ≡ Some kept) × (take len (drop kept new) ≡ take len (drop place old))
+    → (kept : ℕ) × (option_map (place_in rva) (find (has_range rva len) (record s { raw_at = at } ∷ ss)) ≡ Some kept)
+    × (take len (drop kept new) ≡ take len (drop place old))
 kept_here rva len place at s ss old new hit e (rest, holds) whole =
     let r = range_parts rva len s hit in
     let d : ℕ = rva - s.rva in

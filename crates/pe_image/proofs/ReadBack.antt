@@ -1,5 +1,7 @@
 -- The written file, read back: its headers pass the checks up to the CLI header's.
-use Rattle.std.proofs.Common.{◌≡◌, ℕ, zero, suc, ◌+◌, ◌-◌, ◌*◌, ◌≤◌, Bool, true, ◌&&◌, ◌||◌, List, [], ◌∷◌, ◌++◌, length, take, drop, Option, Some, None, refl, sym, ap, ◌∙◌, arith, length-drop, length-take}
+use Rattle.std.proofs.Common.{◌≡◌, ℕ, zero, suc, ◌+◌, ◌-◌, ◌*◌, ◌≤◌, Bool, true, ◌&&◌, ◌||◌, List, [], ◌∷◌, ◌++◌}
+use Rattle.std.proofs.Common.{length, take, drop, Option, Some, None, refl, sym, ap, ◌∙◌, arith, length-drop}
+use Rattle.std.proofs.Common.{length-take}
 use Rattle.std.specs.Prelude.{nat_le, if◌then◌else◌, ◌==◌, unwrap_or, is_some}
 use Rattle.std.specs.Option.{option_map}
 use Rattle.std.proofs.lemmas.Bool.{le-leb, and_from, or_right}
@@ -11,8 +13,11 @@ use Rattle.rtr_bytes.specs.Field.{u16_of, u32_of}
 use Rattle.rtr_bytes.specs.Checks.{Check, check, holds_or, fault_or, first_fault, first_record, records}
 use Rattle.pe_image.specs.declared.section.PeSection.{PeSection}
 use Rattle.pe_image.specs.Sections.{section_at}
-use Rattle.pe_image.specs.Headers.{pe_at, section_count, optional_size, optional_at, magic_of, is_wide, directories_offset, directory_count_at, cli_directory_at, section_table_at, sections_of, place_of, cli_at, metadata_place}
-use Rattle.pe_image.specs.Checks.{coff_checks, optional_checks, section_checks, directory_checks, cli_header_checks, cli_checks, pe_checks, raw_range_fits}
+use Rattle.pe_image.specs.Headers.{pe_at, section_count, optional_size, optional_at, magic_of, is_wide}
+use Rattle.pe_image.specs.Headers.{directories_offset, directory_count_at, cli_directory_at, section_table_at}
+use Rattle.pe_image.specs.Headers.{sections_of, place_of, cli_at, metadata_place}
+use Rattle.pe_image.specs.Checks.{coff_checks, optional_checks, section_checks, directory_checks, cli_header_checks}
+use Rattle.pe_image.specs.Checks.{cli_checks, pe_checks, raw_range_fits}
 use Rattle.pe_image.specs.Places.{headers_end, AreLaid}
 use Rattle.pe_image.proofs.NumbersInARow.{field_at-is}
 

@@ -6,7 +6,8 @@ use Rattle.rtr_bytes.specs.Field.{u32_of}
 use Rattle.rtr_bytes.specs.Checks.{first_fault}
 use Rattle.rtr_bytes.proofs.Joined.{first_fault-append}
 use Rattle.pe_image.specs.declared.section.PeSection.{PeSection}
-use Rattle.pe_image.specs.Headers.{Headers, headers_of, machine_of, is_wide, sections_of, cli_at, metadata_place, metadata_size, native_span, native_of}
+use Rattle.pe_image.specs.Headers.{Headers, headers_of, machine_of, is_wide, sections_of, cli_at, metadata_place}
+use Rattle.pe_image.specs.Headers.{metadata_size, native_span, native_of}
 use Rattle.pe_image.specs.Sections.{slice_of_rva}
 use Rattle.pe_image.specs.Cli.{IsCliOf}
 use Rattle.pe_image.specs.Checks.{coff_checks, optional_checks, section_checks, cli_checks, pe_checks}
@@ -21,22 +22,39 @@ cli_left bytes file read same kept front sections =
     (ap (λ (t : List ℕ). first_fault (coff_checks ++ optional_checks) t) kept ∙ front)
     ∙ first_fault-append section_checks cli_checks read sections
 
-pub headers-are : (bytes read : List ℕ) (machine : ℕ) (wide : Bool) (sections : List PeSection) (cli metadata : Span) (flags token : ℕ) (native : Option Span)
+pub headers-are : (bytes read : List ℕ) (machine : ℕ) (wide : Bool) (sections : List PeSection) (cli metadata : Span)
+    (flags token : ℕ) (native : Option Span)
     → read ≡ bytes → machine ≡ machine_of read → wide ≡ is_wide read → sections ≡ sections_of read
     → cli ≡ record { start = cli_at read; len = 72 }
     → metadata ≡ record { start = unwrap_or (metadata_place read) 0; len = metadata_size read }
     → flags ≡ u32_of read (cli_at read + 16) → token ≡ u32_of read (cli_at read + 20) → native ≡ native_of read
-    → (let h : Headers = record { machine = machine; wide = wide; sections = sections; cli = cli; metadata = metadata; cli_flags = flags; entry_token = token; native = native } in h) ≡ headers_of bytes
+    → (let h : Headers = record {
+      machine = machine;
+      wide = wide;
+      sections = sections;
+      cli = cli;
+      metadata = metadata;
+      cli_flags = flags;
+      entry_token = token;
+      native = native;
+    } in h) ≡ headers_of bytes
 headers-are bytes read machine wide sections cli metadata flags token native same a b c d e f g h =
     rw (a, b, c, d, e, f, g, h) (ap headers_of same)
 
 -- the CLI header at its place, in the bytes that were read
-pub cli-is : (bytes read : List ℕ) (sections : List PeSection) (at start rva len flags token native_rva native_len : ℕ) (place : Option ℕ) (native : Option Span)
+pub cli-is : (bytes read : List ℕ) (sections : List PeSection) (at start rva len flags token native_rva native_len : ℕ)
+    (place : Option ℕ) (native : Option Span)
     → read ≡ bytes → sections ≡ sections_of bytes → at ≡ cli_at bytes
     → rva ≡ u32_of read (at + 8) → len ≡ u32_of read (at + 8 + 4) → place ≡ slice_of_rva sections rva len → place ≡ Some start
     → flags ≡ u32_of read (at + 16) → token ≡ u32_of read (at + 20)
     → native_rva ≡ u32_of read (at + 64) → native_len ≡ u32_of read (at + 64 + 4) → native ≡ native_span native_rva native_len
-    → IsCliOf bytes (record { header = record { start = at; len = 72 }; metadata = record { start = start; len = len }; flags = flags; entry_token = token; native = native })
+    → IsCliOf bytes (record {
+      header = record { start = at; len = 72 };
+      metadata = record { start = start; len = len };
+      flags = flags;
+      entry_token = token;
+      native = native;
+    })
 cli-is bytes read sections at start rva len flags token native_rva native_len place native same table here a b found is c d e f g =
     let twelve : at + 8 + 4 ≡ cli_at bytes + 12 = omega (arith, here) in
     let sixty_eight : at + 64 + 4 ≡ cli_at bytes + 68 = omega (arith, here) in

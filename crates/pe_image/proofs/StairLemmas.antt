@@ -1,5 +1,6 @@
 -- The stairs of a run of sections: made of the sections in the order of their RVAs, and asked at one step.
-use Rattle.std.proofs.Common.{◌≡◌, ℕ, zero, suc, ◌+◌, ◌-◌, ◌<◌, ◌≤◌, leb, Bool, true, false, List, [], ◌∷◌, ◌++◌, length, drop, get_or, refl, sym, ap, subst, append-nil, ◌∙◌, arith, inl, inr}
+use Rattle.std.proofs.Common.{◌≡◌, ℕ, zero, suc, ◌+◌, ◌-◌, ◌<◌, ◌≤◌, leb, Bool, true, false, List, [], ◌∷◌, ◌++◌}
+use Rattle.std.proofs.Common.{length, drop, get_or, refl, sym, ap, subst, append-nil, ◌∙◌, arith, inl, inr}
 use Rattle.std.specs.Prelude.{max, nat_le, ◌&&◌, ◌||◌}
 use Rattle.std.specs.List.{list_any, AllWithin}
 use Rattle.std.specs.List.Sorted.{IsNonDecreasingBy, IsPermutation}
@@ -116,7 +117,8 @@ end_max end a b =
 -- The first begins, those before it reach the end, it reaches the end, a later one begins, a later one spans. The later ones
 -- begin where the first does, or after it.
 one_more : (first before reaches later spanned : Bool) → (later ≡ true → first ≡ true)
-    → ((first && (before || reaches)) || (((before || reaches) && later) || spanned)) ≡ ((before && (first || later)) || ((first && reaches) || spanned))
+    → ((first && (before || reaches)) || (((before || reaches) && later) || spanned))
+    ≡ ((before && (first || later)) || ((first && reaches) || spanned))
 one_more true true reaches later spanned h = refl
 one_more true false true later spanned h = refl
 one_more true false false later spanned h = refl

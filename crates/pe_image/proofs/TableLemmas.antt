@@ -1,5 +1,6 @@
 -- The section table, read from the bytes that were written.
-use Rattle.std.proofs.Common.{◌≡◌, ℕ, ◌+◌, ◌*◌, ◌^◌, ◌<◌, ◌≤◌, List, [], ◌∷◌, ◌++◌, length, take, drop, Option, refl, sym, ap, ◌∙◌, arith, lit<, append_assoc, length-append}
+use Rattle.std.proofs.Common.{◌≡◌, ℕ, ◌+◌, ◌*◌, ◌^◌, ◌<◌, ◌≤◌, List, [], ◌∷◌, ◌++◌, length, take, drop, Option, refl}
+use Rattle.std.proofs.Common.{sym, ap, ◌∙◌, arith, lit<, append_assoc, length-append}
 use Rattle.std.specs.Prelude.{All, unwrap_or}
 use Rattle.std.specs.List.{flat_map}
 use Rattle.std.proofs.lemmas.List.{drop-drop, take_at, drop_at}
@@ -44,8 +45,16 @@ section_fit : (place : ℕ) (s : PeSection) → HeaderFits s → AllFit (section
 section_fit place s h = (h.virtual_size, (h.rva, (h.raw_size, (h.raw_at, (lit< tt, (lit< tt, (lit< tt, (lit< tt, (h.flags, tt)))))))))
 
 section_covers : (place : ℕ) (s : PeSection) → Covers (place + 8) (section_fields place s) (place + 40)
-section_covers place s =
-    (refl, (omega arith, (omega arith, (omega arith, (omega arith, (omega arith, (omega arith, (omega arith, (omega arith, omega arith)))))))))
+section_covers place s = (
+  refl,
+  (
+    omega arith,
+    (
+      omega arith,
+      (omega arith, (omega arith, (omega arith, (omega arith, (omega arith, (omega arith, omega arith)))))),
+    ),
+  ),
+)
 
 pub length-section_bytes : (s : PeSection) → length s.name ≡ 8 → length (section_bytes s) ≡ 40
 unfolding section_bytes

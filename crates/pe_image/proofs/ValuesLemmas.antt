@@ -7,7 +7,8 @@ use Rattle.pe_image.specs.declared.values.OptionalHeader.{OptionalHeader}
 use Rattle.pe_image.specs.declared.values.HeaderValues.{HeaderValues}
 use Rattle.pe_image.specs.declared.values.Sizes.{Sizes}
 use Rattle.pe_image.specs.Places.{aligned, cod_rva, headers_end}
-use Rattle.pe_image.specs.Written.{section_alignment_of, resources_of, image_size, coff_header, optional_header, header_sizes, header_values}
+use Rattle.pe_image.specs.Written.{section_alignment_of, resources_of, image_size, coff_header, optional_header}
+use Rattle.pe_image.specs.Written.{header_sizes, header_values}
 
 pub sizes-are : (sections : List PeSection) (bytes : List ℕ) (dat_len cod_len code initialized base alignment image headers : ℕ)
     → code ≡ aligned 512 cod_len → initialized ≡ aligned 512 dat_len → base ≡ cod_rva sections dat_len
@@ -26,10 +27,12 @@ unfolding header_sizes
 sizes-are sections bytes dat_len cod_len code initialized base alignment image headers a b c d e f = rw (a, b, c, d, e, f) refl
 
 -- the values of the headers, part by part
-pub values-are : (sections : List PeSection) (bytes : List ℕ) (dat_len cod_len cli count : ℕ) (coff : CoffHeader) (optional : OptionalHeader) (sizes : Sizes) (resources : Span)
+pub values-are : (sections : List PeSection) (bytes : List ℕ) (dat_len cod_len cli count : ℕ) (coff : CoffHeader)
+    (optional : OptionalHeader) (sizes : Sizes) (resources : Span)
     → coff ≡ coff_header count → count ≡ length sections + 2 → optional ≡ optional_header sizes
     → sizes ≡ header_sizes sections bytes dat_len cod_len
     → resources ≡ resources_of bytes
-    → (let v : HeaderValues = record { coff = coff; optional = optional; resource_table = resources; cli_header = record { start = cli; len = 72 } } in v)
+    → (let v : HeaderValues =
+    record { coff = coff; optional = optional; resource_table = resources; cli_header = record { start = cli; len = 72 } } in v)
     ≡ header_values sections bytes dat_len cod_len cli
 values-are sections bytes dat_len cod_len cli count coff optional sizes resources a b c d e = rw (a, b, c, d, e) refl

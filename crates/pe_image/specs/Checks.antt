@@ -3,7 +3,9 @@ use Rattle.std.specs.Prelude.{ℕ, ◌+◌, ◌*◌, ◌==◌, ◌&&◌, ◌||�
 use Rattle.std.specs.Option.{option_map}
 use Rattle.rtr_bytes.specs.Field.{u16_of, u32_of}
 use Rattle.rtr_bytes.specs.Checks.{Check, check, holds_or, first_record}
-use Rattle.pe_image.specs.Headers.{pe_at, section_count, optional_size, optional_at, magic_of, directories_offset, directory_count_at, cli_directory_at, section_table_at, place_of, cli_at, metadata_place}
+use Rattle.pe_image.specs.Headers.{pe_at, section_count, optional_size, optional_at, magic_of, directories_offset}
+use Rattle.pe_image.specs.Headers.{directory_count_at, cli_directory_at, section_table_at, place_of, cli_at}
+use Rattle.pe_image.specs.Headers.{metadata_place}
 
 -- the MS-DOS header, the PE signature and the COFF header
 abbrev pub coff_checks : List Check

@@ -1,6 +1,7 @@
 -- A written PE file: when one can be written, the numbers of its headers by their places (PE/COFF 2 to 4), and the
 -- bytes that its RVAs keep.
-use Rattle.std.specs.Prelude.{◌≡◌, ℕ, ◌+◌, ◌^◌, ◌<◌, ◌≤◌, ◌==◌, ◌||◌, List, [], ◌∷◌, ◌++◌, length, take, drop, All, nat_le, Some, IsSome, None, if◌then◌else◌}
+use Rattle.std.specs.Prelude.{◌≡◌, ℕ, ◌+◌, ◌^◌, ◌<◌, ◌≤◌, ◌==◌, ◌||◌, List, [], ◌∷◌, ◌++◌, length, take, drop, All}
+use Rattle.std.specs.Prelude.{nat_le, Some, IsSome, None, if◌then◌else◌}
 use Rattle.std.specs.List.{AllZip}
 use Rattle.rtr_bytes.specs.declared.fault.Span.{Span}
 use Rattle.rtr_bytes.specs.declared.fault.Fault.{Fault}

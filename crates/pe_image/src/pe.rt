@@ -45,8 +45,9 @@ impl Model for Pe {
 }
 
 impl Pe {
-    /// Reads the headers of a file's bytes, of which there are at most 2^31. `Malformed` names the first
-    /// of the checks 1 to 14 that fails, with its place.
+    /// Reads the headers of a file's bytes, of which there are at most 2^31 (PE/COFF 2 to 4, ECMA-335 II.25.3.3).
+    /// `Malformed` names the first of the checks 1 to 14 that fails, with its file offset; `NoMemory` comes where
+    /// memory is refused.
     pub fn read(alloc: Global, bytes: &[u8]) -> Result<Pe, ReadRefusal>
         requires { length bytes.now ≤ 2 ^ 31 }
         ensures malformed { IfErr result (λ e. RefusedBy (first_fault pe_checks bytes.now) e) }
@@ -78,14 +79,14 @@ impl Pe {
         self.wide
     }
 
-    /// The section headers, in the order of the section table.
+    /// The section headers, in the order of the section table (PE/COFF 4).
     pub fn sections(&self) -> &[PeSection]
         ensures { result.now ≡ self.now.sections }
     {
         self.sections.as_slice()
     }
 
-    /// The CLI header's 72 bytes, as a range of the file.
+    /// The CLI header's 72 bytes, as a range of the file (ECMA-335 II.25.3.3).
     pub fn cli(&self) -> Span
         ensures range { result ≡ self.now.cli }
         // It ends at a file offset of 32 bits.
@@ -110,22 +111,23 @@ impl Pe {
         self.cli.flags
     }
 
-    /// EntryPointToken of the CLI header.
+    /// EntryPointToken of the CLI header (ECMA-335 II.25.3.3).
     pub fn entry_token(&self) -> u32
         ensures { result ≡ self.now.entry_token }
     {
         self.cli.entry_token
     }
 
-    /// ManagedNativeHeader of the CLI header, as a range of RVAs. `None` exactly where RVA and size are 0.
+    /// ManagedNativeHeader of the CLI header, as a range of RVAs (ECMA-335 II.25.3.3). `None` exactly where RVA and
+    /// size are both 0.
     pub fn native(&self) -> Option<Span>
         ensures { result ≡ self.now.native }
     {
         self.cli.native
     }
 
-    /// The file offset of a range of RVAs, in the first section whose VirtualAddress is at most `rva` and
-    /// whose VirtualAddress plus SizeOfRawData is at least `rva + len`. `None` exactly where there is no
+    /// The file offset of the `len` bytes at an RVA, in the first section whose VirtualAddress is at most `rva` and
+    /// whose VirtualAddress plus SizeOfRawData is at least `rva + len` (PE/COFF 4). `None` exactly where there is no
     /// such section, or where `rva + len` passes 2^32.
     pub fn slice_of_rva(&self, rva: u32, len: u32) -> Option<u32>
         ensures place { result ≡ slice_of_rva self.now.sections rva len }

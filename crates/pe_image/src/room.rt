@@ -15,7 +15,8 @@ use crate::section::PeSection;
 /// The most sections that an input may have: a written file has two more, and their count has 16 bits.
 const MOST_SECTIONS: usize = 65535 - NEW_SECTIONS;
 
-/// The RVA of `.r2rdat` in a file that is written from an input. It is above 32 bits where none can be written.
+/// The RVA of `.r2rdat` in a file that is written from an input: the first multiple of 65,536 at or after the highest
+/// end of a section. It may be above 32 bits, and then no file can be written.
 pub fn dat_rva(input: &Pe) -> u64
     ensures value { result ≡ dat_rva input.now.sections }
     ensures small { result < 2 ^ 34 }
@@ -23,7 +24,8 @@ pub fn dat_rva(input: &Pe) -> u64
     aligned(highest_end(input.sections()), NEW_SECTION_ALIGNMENT)
 }
 
-/// The RVA of `.r2rcod`, after so many bytes of `.r2rdat`.
+/// The RVA of `.r2rcod` after `dat_len` bytes of `.r2rdat`: the first multiple of 65,536 at or after their end. It may
+/// be above 32 bits, and then no file can be written.
 pub fn cod_rva(input: &Pe, dat_len: u32) -> u64
     ensures { result ≡ cod_rva input.now.sections dat_len }
 {
@@ -52,8 +54,9 @@ fn raw_total(sections: &[PeSection]) -> u64
     total
 }
 
-/// Whether [`write_pe`](crate::write_pe) can be called: there is room for the headers, the RVAs and the file places, and
-/// the CLI header at the RVA `cli_at` is within `dat`.
+/// Whether [`write_pe`](crate::write_pe) can be called: the input has at most 65,533 sections, the headers end at or
+/// below each VirtualAddress, the sums that bound the RVAs and the file offsets are below 2^32 (docs/FORMATS.md, "The
+/// written file"), and the 72 bytes of the CLI header at the RVA `cli_at` are within `dat`.
 pub fn can_write_pe(input: &Pe, dat: &[u8], cod: &[u8], cli_at: u32) -> bool
     ensures { IsTrue result ↔ IsWritable input.now.sections (length dat.now) (length cod.now) cli_at }
 {

@@ -93,7 +93,8 @@ impl PeSection {
     }
 }
 
-/// Appends the headers of sections whose raw bytes are one after the other from a place on. It gives the place where those end.
+/// Appends the headers of sections whose raw bytes are one after the other from a place on. It gives the place where
+/// those end.
 fn put_table(out: &mut Vec<u8>, sections: &[PeSection], first: u32) -> Result<u32, NoMemory>
     requires { end_from first sections.now < 2 ^ 32 }
     ensures table { OnOk result (out.new.items ≡ out.old.items ++ flat_map section_bytes (placed_from first sections.now)) }
@@ -179,8 +180,12 @@ impl<'a> Parts<'a> {
     }
 }
 
-/// Writes a PE file of an input's sections and two more, `.r2rdat` with the bytes `dat` and `.r2rcod` with `cod`. The CLI
-/// header is the one in `dat` at the RVA `cli_at`. The input's bytes keep their RVAs, and raw places move.
+/// Writes a PE32+ file for A64 of an input's sections and two more, `.r2rdat` with the bytes `dat` and `.r2rcod` with
+/// `cod` (PE/COFF 2 to 4). The CLI header is the one in `dat` at the RVA `cli_at`. The input's bytes keep their RVAs,
+/// and raw places move.
+///
+/// `input` is what [`Pe::read`] answered for `bytes`, of which there are at most 2^31, and
+/// [`can_write_pe`](crate::can_write_pe) answers true. `NoMemory` comes where memory is refused.
 pub fn write_pe(
     alloc: Global,
     input: &Pe,

@@ -1,12 +1,13 @@
 -- The cause of each status, from how a dump ends.
-use Rattle.std.proofs.Common.{◌≡◌, ℕ, suc, ◌<◌, ◌≤◌, List, [], ◌∷◌, ◌++◌, ◌⊎◌, inl, inr, length, Option, Some, None, Bool, true, false, cond, refl, sym, ap, subst, ◌∙◌, length-append, arith, lt-ltb, le-ltb}
+use Rattle.std.proofs.Common.{◌≡◌, ℕ, suc, ◌<◌, ◌≤◌, List, [], ◌∷◌, ◌++◌, ◌⊎◌, inl, inr, length, Option, Some, None}
+use Rattle.std.proofs.Common.{Bool, true, false, cond, refl, sym, ap, subst, ◌∙◌, length-append, arith, lt-ltb, le-ltb}
 use Rattle.std.specs.Prelude.{nat_lt}
 use Rattle.rtr_bytes.specs.declared.fault.Fault.{Fault}
-use Rattle.rtr_bytes.specs.Checks.{first_fault}
 use Rattle.rtr_outside.specs.Files.{Contents, Call, Read, IsKnownAs, IsKnownLonger, file_limit}
 use Rattle.rtr_outside.specs.Sink.{Appends}
-use Rattle.r2rdump.specs.Dump.{dump_checks, dump_text}
-use Rattle.r2r.specs.Outcome.{read_failed_line, malformed_line, too_long_line, Prints, CutsShort, Ends, IsReply, IsFileReply, ReadFailed, TooLong, WasRead, DumpEnds, faulted}
+use Rattle.r2rdump.specs.Dump.{dump_text, file_fault}
+use Rattle.r2r.specs.Outcome.{read_failed_line, malformed_line, too_long_line, Prints, CutsShort, Ends, IsReply}
+use Rattle.r2r.specs.Outcome.{IsFileReply, ReadFailed, TooLong, WasRead, DumpEnds, faulted}
 use Rattle.r2r.specs.Causes.{DumpCauses, IsOneOf, Exposes, ExposesNone, statuses_of, statuses_by_fault}
 
 -- one more call makes another list
@@ -40,7 +41,7 @@ long_missing (Some files) name h k = let e : Some h.0 ≡ None = sym h.1 ∙ k i
 statuses_long : (bytes : List ℕ) → file_limit < length bytes → statuses_of bytes ≡ 4 ∷ 7 ∷ []
 statuses_long bytes h = rw (lt-ltb file_limit (length bytes) h) refl
 
-statuses_within : (bytes : List ℕ) (first : Option Fault) → length bytes ≤ file_limit → first_fault dump_checks bytes ≡ first
+statuses_within : (bytes : List ℕ) (first : Option Fault) → length bytes ≤ file_limit → file_fault bytes ≡ first
     → statuses_of bytes ≡ statuses_by_fault first
 statuses_within bytes first h e = rw (le-ltb file_limit (length bytes) h, e) refl
 
@@ -50,7 +51,7 @@ seven_by_fault None = refl
 seven_by_fault (Some fault) = refl
 
 seven : (bytes : List ℕ) → IsOneOf (statuses_of bytes) 7
-seven bytes = by_test (nat_lt file_limit (length bytes)) (first_fault dump_checks bytes)
+seven bytes = by_test (nat_lt file_limit (length bytes)) (file_fault bytes)
   where
     by_test : (b : Bool) (first : Option Fault) → IsOneOf (cond b (4 ∷ 7 ∷ []) (statuses_by_fault first)) 7
     by_test true first = refl
@@ -127,13 +128,13 @@ module _ {S : Type 0} (written : S → Option (List ℕ)) (faults : S → ℕ) (
   -- a file that was read
   module _ (bytes : List ℕ) (calls : new ≡ old) (len : length bytes ≤ file_limit) (known : IsKnownAs contents name bytes) where
     -- what its first fault allows is allowed of the bytes that the files expose
-    allowed : (first : Option Fault) → first_fault dump_checks bytes ≡ first → IsOneOf (statuses_by_fault first) result
+    allowed : (first : Option Fault) → file_fault bytes ≡ first → IsOneOf (statuses_by_fault first) result
         → (b : List ℕ) → Exposes contents name b → IsOneOf (statuses_of b) result
     allowed first is one b t =
         let of_bytes : IsOneOf (statuses_of bytes) result = rw (statuses_within bytes first len is) one in
         subst (λ (x : List ℕ). IsOneOf (statuses_of x) result) (open_file contents name bytes b known t) of_bytes
 
-    malformed_causes : (fault : Fault) → first_fault dump_checks bytes ≡ Some fault → result ≡ 3
+    malformed_causes : (fault : Fault) → file_fault bytes ≡ Some fault → result ≡ 3
         → PrintsLine (malformed_line name fault) → Causes
     malformed_causes fault first e p = record {
       status = rw e refl;
@@ -148,7 +149,7 @@ module _ {S : Type 0} (written : S → Option (List ℕ)) (faults : S → ℕ) (
       failed_calls = inl calls;
     }
 
-    dumped_causes : first_fault dump_checks bytes ≡ None → result ≡ 0
+    dumped_causes : file_fault bytes ≡ None → result ≡ 0
         → Appends (dump_text name bytes) (written before) (written after) → Causes
     dumped_causes first e p = record {
       status = rw e refl;
@@ -163,7 +164,7 @@ module _ {S : Type 0} (written : S → Option (List ℕ)) (faults : S → ℕ) (
       failed_calls = inl calls;
     }
 
-    cut_causes : first_fault dump_checks bytes ≡ None → result ≡ 5
+    cut_causes : file_fault bytes ≡ None → result ≡ 5
         → CutsShort written faults (dump_text name bytes) before after → Causes
     cut_causes first e p = record {
       status = rw e refl;
@@ -179,7 +180,7 @@ module _ {S : Type 0} (written : S → Option (List ℕ)) (faults : S → ℕ) (
     }
 
     -- by the first fault of what was read
-    read_causes : (first : Option Fault) (status : ℕ) (text : List ℕ) → first_fault dump_checks bytes ≡ first
+    read_causes : (first : Option Fault) (status : ℕ) (text : List ℕ) → file_fault bytes ≡ first
         → IsFileReply name bytes first status text → EndsWith status text → Causes
     read_causes None status text first reply (inl e) =
         let whole = subst (λ (t : List ℕ). Appends t (written before) (written after)) reply.1 e.0 in
@@ -199,7 +200,7 @@ module _ {S : Type 0} (written : S → Option (List ℕ)) (faults : S → ℕ) (
       let r = refused_as 3 status (too_long_line name) text s t e in
       too_long_causes calls long r.0 r.1
   reply_causes status text (WasRead calls bytes len known reply) e =
-      read_causes bytes calls len known (first_fault dump_checks bytes) status text refl reply e
+      read_causes bytes calls len known (file_fault bytes) status text refl reply e
 
   pub causes_of_end : DumpEnds written faults contents old new name before after result → Causes
   causes_of_end (inl e) = reply_causes e.0 e.1 e.2 e.3

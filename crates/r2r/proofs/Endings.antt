@@ -1,11 +1,12 @@
 -- How the dump of a file ends, from how its parts end.
-use Rattle.std.proofs.Common.{◌≡◌, ◌≤◌, ℕ, suc, List, [], ◌∷◌, ◌++◌, length, Option, Some, Result, Ok, Err, MatchResult, IfOk, ◌⊎◌, inl, inr, refl, ◌∙◌, subst, take}
+use Rattle.std.proofs.Common.{◌≡◌, ◌≤◌, ℕ, suc, List, [], ◌∷◌, ◌++◌, length, Option, Some, Result, Ok, Err, MatchResult}
+use Rattle.std.proofs.Common.{IfOk, ◌⊎◌, inl, inr, refl, ◌∙◌, subst, take}
 use Rattle.rtr_bytes.specs.declared.fault.Fault.{Fault}
-use Rattle.rtr_bytes.specs.Checks.{first_fault}
 use Rattle.rtr_outside.specs.Files.{Contents, Call, Read, IsKnownAs, IsKnownLonger, file_limit}
 use Rattle.rtr_outside.specs.Sink.{Appends, Rose}
-use Rattle.r2rdump.specs.Dump.{dump_checks, IsUntouched}
-use Rattle.r2r.specs.Outcome.{read_failed_line, malformed_line, too_long_line, Prints, Ends, ReadFailed, TooLong, WasRead, BytesEnd, DumpEnds}
+use Rattle.r2rdump.specs.Dump.{file_fault, IsUntouched}
+use Rattle.r2r.specs.Outcome.{read_failed_line, malformed_line, too_long_line, Prints, Ends, ReadFailed, TooLong}
+use Rattle.r2r.specs.Outcome.{WasRead, BytesEnd, DumpEnds}
 
 module _ {S : Type 0} (written : S → Option (List ℕ)) (faults : S → ℕ) where
   -- the line of a refusal was printed, or there was no memory for it
@@ -33,7 +34,7 @@ module _ {S : Type 0} (written : S → Option (List ℕ)) (faults : S → ℕ) w
       inl (inr ((rises, (k, subst (λ (old : Option (List ℕ)). Appends (take k line) old (written after)) w cut)), e))
   since n line before mid after code (w, f) (inr (e, (v, h))) = inr (e, (v ∙ w, h ∙ f))
 
-  pub malformed_ends : (name bytes : List ℕ) (fault : Fault) (before after : S) (code : ℕ) → first_fault dump_checks bytes ≡ Some fault
+  pub malformed_ends : (name bytes : List ℕ) (fault : Fault) (before after : S) (code : ℕ) → file_fault bytes ≡ Some fault
       → Refuses 2 (malformed_line name fault) before after code → BytesEnd written faults name bytes before after code
   malformed_ends name bytes fault before after code first (inl ends) =
       inl (3, malformed_line name fault, (rw first (refl, refl)), ends)

@@ -2,11 +2,10 @@
 use Rattle.std.specs.Prelude.{◌≡◌, ℕ, ◌==◌, List, [], ◌∷◌, ◌++◌, ◌⊎◌, length, nat_lt, IsTrue, Option, Some, None, if◌then◌else◌}
 use Rattle.std.specs.List.{list_any}
 use Rattle.rtr_bytes.specs.declared.fault.Fault.{Fault}
-use Rattle.rtr_bytes.specs.Checks.{first_fault}
 use Rattle.rtr_outside.specs.Files.{Contents, Call, Read, IsKnownAs, IsKnownLonger, file_limit}
 use Rattle.rtr_outside.specs.Sink.{Appends, PrintsFront, Rose}
 use Rattle.r2r.specs.Command.{Command, Dump}
-use Rattle.r2rdump.specs.Dump.{dump_checks, dump_text}
+use Rattle.r2rdump.specs.Dump.{dump_text, file_fault}
 use Rattle.r2r.specs.Outcome.{read_failed_line, malformed_line, too_long_line, Prints}
 
 -- where the words are a dump of a file, this holds of its name
@@ -36,25 +35,25 @@ statuses_by_fault None = 0 ∷ 5 ∷ 7 ∷ []
 statuses_by_fault (Some fault) = 3 ∷ 7 ∷ []
 
 abbrev pub statuses_of : List ℕ → List ℕ
-statuses_of bytes = if nat_lt file_limit (length bytes) then 4 ∷ 7 ∷ [] else statuses_by_fault (first_fault dump_checks bytes)
+statuses_of bytes = if nat_lt file_limit (length bytes) then 4 ∷ 7 ∷ [] else statuses_by_fault (file_fault bytes)
 
 pub record DumpCauses {S : Type 0} (written : S → Option (List ℕ)) (faults : S → ℕ) (contents : Option Contents) (old new : List Call)
     (name : List ℕ) (before after : S) (result : ℕ) : Type 0 where
   pub status : IsOneOf (0 ∷ 2 ∷ 3 ∷ 4 ∷ 5 ∷ 7 ∷ []) result
   -- 0: no check fails, and the whole text was written
   pub dumped : result ≡ 0 → OfBytes contents name (λ bytes.
-      (first_fault dump_checks bytes ≡ None) × Appends (dump_text name bytes) (written before) (written after))
+      (file_fault bytes ≡ None) × Appends (dump_text name bytes) (written before) (written after))
   -- 2: the failed calls gained the read of this file
   pub read_failed : result ≡ 2 → (new ≡ old ++ Read name ∷ []) × Prints written faults (read_failed_line name) before after
   -- 3: a check fails, and the line names the first fault
   pub malformed : result ≡ 3 → OfBytes contents name (λ bytes.
-      (fault : Fault) × (first_fault dump_checks bytes ≡ Some fault)
+      (fault : Fault) × (file_fault bytes ≡ Some fault)
       × Prints written faults (malformed_line name fault) before after)
   -- 4: the file is above the limit
   pub too_long : result ≡ 4 → IsKnownLonger file_limit contents name × Prints written faults (too_long_line name) before after
   -- 5: the output had a fault while the text was written, and took a prefix of it
   pub write_fault : result ≡ 5 → Rose (faults before) (faults after) × OfBytes contents name (λ bytes.
-      (first_fault dump_checks bytes ≡ None) × PrintsFront written (dump_text name bytes) before after)
+      (file_fault bytes ≡ None) × PrintsFront written (dump_text name bytes) before after)
   -- 7: nothing was written, and the output had no fault
   pub no_memory : result ≡ 7 → (written after ≡ written before) × (faults after ≡ faults before)
   -- where the files expose their bytes and no read failed, those of the file decide

@@ -1,11 +1,10 @@
 -- What the top call leaves: lines of refusals, what the output took, and what a file was read as.
 use Rattle.std.specs.Prelude.{◌≡◌, ℕ, zero, suc, ◌≤◌, List, [], ◌∷◌, ◌++◌, ◌⊎◌, length, codes, decimal, Option, Some, None}
 use Rattle.rtr_bytes.specs.declared.fault.Fault.{Fault}
-use Rattle.rtr_bytes.specs.Checks.{first_fault}
 use Rattle.rtr_outside.specs.Files.{Contents, Call, Read, IsKnownAs, IsKnownLonger, file_limit}
 use Rattle.rtr_outside.specs.Sink.{Appends, PrintsFront, Rose}
 use Rattle.r2rdump.specs.Text.{printed_name, newline}
-use Rattle.r2rdump.specs.Dump.{dump_checks, dump_text, IsUntouched}
+use Rattle.r2rdump.specs.Dump.{dump_text, file_fault, IsUntouched}
 
 abbrev pub usage_line : List ℕ
 usage_line = codes "usage: r2r compile IN -o OUT [--ref F].. [--fields cell|burn] | run IMAGE [--ref F].. [--entry T::M] [--worker A,B].. [--ticks N] [--cells] | dump FILE | big N\n"
@@ -34,7 +33,7 @@ pub data IsReply (contents : Option Contents) (old new : List Call) (name : List
       → IsReply contents old new name status text
   -- the file was read
   WasRead : new ≡ old → (bytes : List ℕ) → length bytes ≤ file_limit → IsKnownAs contents name bytes
-      → IsFileReply name bytes (first_fault dump_checks bytes) status text → IsReply contents old new name status text
+      → IsFileReply name bytes (file_fault bytes) status text → IsReply contents old new name status text
 
 -- the status where the output had a fault: a refusal keeps its own
 abbrev pub faulted : ℕ → ℕ
@@ -63,6 +62,6 @@ DumpEnds written faults contents old new name before after result =
 -- the same of a file's bytes
 abbrev pub BytesEnd : {S : Type 0} → (S → Option (List ℕ)) → (S → ℕ) → List ℕ → List ℕ → S → S → ℕ → Type 0
 BytesEnd written faults name bytes before after result =
-    ((status : ℕ) × (text : List ℕ) × IsFileReply name bytes (first_fault dump_checks bytes) status text
+    ((status : ℕ) × (text : List ℕ) × IsFileReply name bytes (file_fault bytes) status text
     × Ends written faults status text before after result)
     ⊎ ((result ≡ 7) × IsUntouched written faults before after)

@@ -8,26 +8,44 @@ use std::process::Abort;
 use std::test::Fail;
 use std::thread::Threads;
 
-/// The least file that is well formed, of 1,024 bytes, zeros but for these: a place, and from there on bytes in
-/// hexadecimal. PE32+ for A64, one section, a CLI header and 20 bytes of metadata.
+/// A file of 1,024 bytes, zeros but for these: a place, and from there on bytes in hexadecimal. PE32+ for A64, one
+/// section and a CLI header. What should be its metadata are zeros.
 pub(crate) const LEAST: &str =
     "@0 4d5a @60 40 @64 50450000 64aa01 @84 f000 @88 0b02 @196 10 @312 0010000048 @328 2e74657874 @336 0002 @340 0010 @344 0002 @348 0002 @512 48 @520 4810000014 @528 01";
 
-const LEAST_TEXT: &str =
-    "file T 1024\nmachine aa64 magic 020b\n.text rva 00001000 size 00000200 file 00000200 raw 00000200\ncli flags 00000001 entry 00000000\nnative none\n";
+/// An assembly A over it, which has 1,536 bytes then: A.C with a method F, and D with G, which has no signature, and H, whose
+/// name begins with 7F.
+const ASSEMBLY: &str =
+    "@337 04 @345 04 @520 00120000fc @1024 42534a42010001 @1036 0c00000076342e302e3330333139 @1054
+03005000000090000000237e0000e00000001000000023537472696e6773 @1088 f00000000c00000023426c6f62 @1108
+020000014500000001 @1128 01000000020000000300000001 @1146 01 @1154 01001000030001000000010001000100100005 @1178
+01000200fc12 @1188 96000700010001 @1202 86000900000001 @1216 86000b00060001 @1242 01 @1249 410043004400460047007f48
+@1265 04000108080320000100000a022a";
+
+const ASSEMBLY_LINES: &str = "assembly A
+type 02000001 A.C
+method 06000001 F 00010808
+type 02000002 D
+method 06000002 G 
+method 06000003 ?H 200001
+";
+
+/// The text up to the lines of the assembly, as are those below.
+const PLAIN_TEXT: &str =
+    "file T 1536\nmachine aa64 magic 020b\n.text rva 00001000 size 00000400 file 00000200 raw 00000400\ncli flags 00000001 entry 00000000\nnative none\n";
 
 /// A native header of version 5.0 without section records, and a section's name with odd bytes.
 const FOREIGN: &str = "@576 0011000010 @768 525452000500 @328 0020747f00";
 
 const FOREIGN_TEXT: &str =
-    "file T 1024\nmachine aa64 magic 020b\n??t? rva 00001000 size 00000200 file 00000200 raw 00000200\ncli flags 00000001 entry 00000000\nnative foreign 5.0 flags 00000000 sections 0\n";
+    "file T 1536\nmachine aa64 magic 020b\n??t? rva 00001000 size 00000400 file 00000200 raw 00000400\ncli flags 00000001 entry 00000000\nnative foreign 5.0 flags 00000000 sections 0\n";
 
 /// A native header of this compiler, with two section records.
 const OWN: &str =
     "@576 0011000010 @768 5254520005000000070000000200000064000000501100000e000000760000000102030405060708 @848 7232722070726f66696c65203100";
 
 const OWN_TEXT: &str =
-    "file T 1024\nmachine aa64 magic 020b\n.text rva 00001000 size 00000200 file 00000200 raw 00000200\ncli flags 00000001 entry 00000000\nnative own 5.0 flags 00000007 sections 2\nrtr 100 rva 00001150 size 0000000e\nrtr 118 rva 04030201 size 08070605\n";
+    "file T 1536\nmachine aa64 magic 020b\n.text rva 00001000 size 00000400 file 00000200 raw 00000400\ncli flags 00000001 entry 00000000\nnative own 5.0 flags 00000007 sections 2\nrtr 100 rva 00001150 size 0000000e\nrtr 118 rva 04030201 size 08070605\n";
 
 /// An image of this compiler: two import sections with two slots and one, two functions, and two entries, of which
 /// the second has a list of a slot of each section.
@@ -38,9 +56,9 @@ const IMAGE: &str = "@576 801000004c @640 52545200 05000000 00000000 05000000
 @776 30110000 32110000 35110000 @816 1a08 1c1205 1403
 @824 60110000 58110000 68110000 5c110000 @840 100102020216000a10100000 @856 08000000 04000000";
 
-const IMAGE_TEXT: &str = "file T 1024
+const IMAGE_TEXT: &str = "file T 1536
 machine aa64 magic 020b
-.text rva 00001000 size 00000200 file 00000200 raw 00000200
+.text rva 00001000 size 00000400 file 00000200 raw 00000400
 cli flags 00000001 entry 00000000
 native own 5.0 flags 00000000 sections 5
 rtr 100 rva 000010d0 size 0000000e
@@ -60,9 +78,9 @@ entry 06000002 function 1 begin 00001168 length 4 fixups 0.1 1.0
 /// Another identifier.
 const RENAMED: &str = "@720 52";
 
-const RENAMED_TEXT: &str = "file T 1024
+const RENAMED_TEXT: &str = "file T 1536
 machine aa64 magic 020b
-.text rva 00001000 size 00000200 file 00000200 raw 00000200
+.text rva 00001000 size 00000400 file 00000200 raw 00000400
 cli flags 00000001 entry 00000000
 native foreign 5.0 flags 00000000 sections 5
 rtr 100 rva 000010d0 size 0000000e
@@ -77,9 +95,9 @@ import 1 rva 00001128 size 00000008 flags 0000 type 0 entry 8 slots 1
 /// Another version, and section types up to 118, of which those from 107 on are in no section.
 const LATER: &str = "@644 06000200 03 @680 6d @692 73 @696 ffffffff @704 76 @708 ffffffff";
 
-const LATER_TEXT: &str = "file T 1024
+const LATER_TEXT: &str = "file T 1536
 machine aa64 magic 020b
-.text rva 00001000 size 00000200 file 00000200 raw 00000200
+.text rva 00001000 size 00000400 file 00000200 raw 00000400
 cli flags 00000001 entry 00000000
 native foreign 6.2 flags 00000003 sections 5
 rtr 100 rva 000010d0 size 0000000e
@@ -95,9 +113,9 @@ import 1 rva 00001128 size 00000008 flags 0000 type 0 entry 8 slots 1
 const CELLS: &str =
     "@68 6486 @676 3c @744 03020104 @760 28 @764 04000210 @776 00100000 08000000 0000ff00 00000000 00000000";
 
-const CELLS_TEXT: &str = "file T 1024
+const CELLS_TEXT: &str = "file T 1536
 machine 8664 magic 020b
-.text rva 00001000 size 00000200 file 00000200 raw 00000200
+.text rva 00001000 size 00000400 file 00000200 raw 00000400
 cli flags 00000001 entry 00000000
 native foreign 5.0 flags 00000000 sections 5
 rtr 100 rva 000010d0 size 0000000e
@@ -173,7 +191,7 @@ pub(crate) fn expect<R: Threads + Sync + Abort>(
     Ok(())
 }
 
-/// Dumps the least file with some bytes written over it, and expects a text.
+/// Dumps the assembly with some bytes written over it, and expects a text before the lines of the assembly.
 fn expect_text<R: Threads + Sync + Abort>(
     rt: &R,
     alloc: Global,
@@ -181,8 +199,9 @@ fn expect_text<R: Threads + Sync + Abort>(
     changes: &str,
     text: &str,
 ) -> Result<(), Fail> {
-    let bytes = file_of(alloc, 1024, &[LEAST, front, changes])?;
-    expect(rt, alloc, "dump T", bytes, 0, text)
+    let bytes = file_of(alloc, 1536, &[LEAST, ASSEMBLY, front, changes])?;
+    let text = format!(in alloc; "{text}{ASSEMBLY_LINES}")?;
+    expect(rt, alloc, "dump T", bytes, 0, text.as_str())
 }
 
 #[test]
@@ -203,7 +222,7 @@ fn words_that_are_no_command(rt: HostRuntime) -> Result<(), Fail> {
 fn well_formed_files(rt: HostRuntime) -> Result<(), Fail> {
     let alloc = rt.alloc();
     for (front, changes, text) in [
-        ("", "", LEAST_TEXT),
+        ("", "", PLAIN_TEXT),
         ("", FOREIGN, FOREIGN_TEXT),
         ("", OWN, OWN_TEXT),
         (IMAGE, "", IMAGE_TEXT),
@@ -216,16 +235,16 @@ fn well_formed_files(rt: HostRuntime) -> Result<(), Fail> {
     Ok(())
 }
 
-/// Changes of the least file, each with the check that fails then and its place.
+/// Changes of the assembly, each with the check that fails then and its place.
 const BROKEN: &str = "@0 4e = check 2 at 0
-@60 e903 = check 3 at 60
+@60 e905 = check 3 at 60
 @67 50 = check 4 at 64
-@84 a903 = check 6 at 84
+@84 a905 = check 6 at 84
 @88 0b03 = check 7 at 88
 @84 e7 = check 8 at 84
 @196 0e = check 9 at 196
-@70 12 = check 10 at 70
-@344 0102 = check 11 at 348
+@70 1f = check 10 at 70
+@344 0104 = check 11 at 348
 @316 47 = check 12 at 312
 @313 30 = check 12 at 312
 @512 47 = check 13 at 512
@@ -236,7 +255,24 @@ const BROKEN: &str = "@0 4e = check 2 at 0
 @576 0011000010 @768 525452000500 @780 64 = check 18 at 780
 @576 0011000010 @768 525452000500 @780 02 @784 05 @796 05 = check 19 at 796
 @576 0011000010 @768 525452000500 @780 02 @784 05 @796 65 @800 0090000001 = check 20 at 800
-@344 0102 @512 47 = check 11 at 348";
+@344 0104 @512 47 = check 11 at 348
+@1024 43 = check 30 at 1024
+@1036 0d = check 31 at 1036
+@1096 4141414141414141414141414141414141414141414141414141414141414141 = check 32 at 1088
+@1092 ff = check 33 at 1088
+@1096 237e0000 = check 34 at 1088
+@1065 2d = check 35 at 1024
+@1060 17 = check 36 at 1104
+@1110 08 = check 37 at 1110
+@1119 80 = check 38 at 1112
+@1131 01 = check 39 at 1128
+@1132 ff = check 40 at 1104
+@1128 00 = check 41 at 1112
+@1146 ff = check 42 at 1146
+@1166 03 = check 43 at 1180
+@1183 50 = check 50 at 1182
+@1276 08 = check 51 at 1276
+@576 0050000010 @1024 43 = check 16 at 576";
 
 /// Changes of the image, each with the check that fails then and its place.
 const BROKEN_IMAGES: &str = "@676 29 = check 21 at 676
@@ -257,6 +293,7 @@ const BROKEN_IMAGES: &str = "@676 29 = check 21 at 676
 @832 64 = check 62 at 832
 @840 16 = check 63 at 840
 @840 0f00000004 = check 63 at 840
+@840 20 = check 63 at 840
 @841 ff = check 64 at 841
 @845 f6 = check 64 at 845
 @846 08 = check 65 at 846
@@ -265,24 +302,27 @@ const BROKEN_IMAGES: &str = "@676 29 = check 21 at 676
 @847 0e0f = check 65 at 847
 @847 0efdff = check 65 at 847
 @756 20 = check 66 at 756
-@756 20 @846 08 = check 65 at 846";
+@756 20 @846 08 = check 65 at 846
+@737 50 @1024 43 = check 22 at 736
+@746 01 @1024 43 = check 30 at 1024";
 
-/// Cut files: the length, the changes, and the check that fails then. The last is PE32, and its three section headers
-/// end after the cut.
+/// Files without an assembly, cut: the length, the changes, and the check that fails then. The last but one is PE32, and its
+/// three section headers end after the cut; the last is whole.
 const CUT: &str = "0 = check 1 at 0
 63 = check 1 at 63
 100 = check 6 at 84
-400 @60 80 @128 50450000 @134 03 @148 e0 @152 0b01 @244 10 = check 10 at 134";
+400 @60 80 @128 50450000 @134 03 @148 e0 @152 0b01 @244 10 = check 10 at 134
+1024 = check 30 at 584";
 
-/// Dumps the least file with changes over it, and expects the line of its fault.
+/// Dumps a file with changes over it, and expects the line of its fault.
 fn expect_fault<R: Threads + Sync + Abort>(
     rt: &R,
     alloc: Global,
     len: usize,
-    changes: [&str; 2],
+    changes: &[&str],
     fault: &str,
 ) -> Result<(), Fail> {
-    let bytes = file_of(alloc, len, &[LEAST, changes[0], changes[1]])?;
+    let bytes = file_of(alloc, len, changes)?;
     let text = format!(in alloc; "malformed: T {fault}\n")?;
     expect(rt, alloc, "dump T", bytes, 3, text.as_str())
 }
@@ -293,13 +333,13 @@ fn broken_files(rt: HostRuntime) -> Result<(), Fail> {
     for (front, rows) in [("", BROKEN), (IMAGE, BROKEN_IMAGES)] {
         for row in rows.split('\n') {
             let (change, fault) = row.split_once(" = ").ok_or("a row has two parts")?;
-            expect_fault(&rt, alloc, 1024, [front, change], fault)?;
+            expect_fault(&rt, alloc, 1536, &[LEAST, ASSEMBLY, front, change], fault)?;
         }
     }
     for row in CUT.split('\n') {
         let (file, fault) = row.split_once(" = ").ok_or("a row has two parts")?;
         let (len, change) = file.split_once(' ').unwrap_or((file, ""));
-        expect_fault(&rt, alloc, len.parse::<usize>()?, ["", change], fault)?;
+        expect_fault(&rt, alloc, len.parse::<usize>()?, &[LEAST, change], fault)?;
     }
     Ok(())
 }
@@ -315,9 +355,9 @@ fn files_around_the_limit(rt: HostRuntime) -> Result<(), Fail> {
         2,
         "read failed: a?b\n",
     )?;
-    let mut bytes = file_of(alloc, FILE_LIMIT, &[LEAST])?;
-    let text = LEAST_TEXT.strip_prefix("file T 1024\n").unwrap_or("");
-    let text = format!(in alloc; "file T 16777216\n{text}")?;
+    let mut bytes = file_of(alloc, FILE_LIMIT, &[LEAST, ASSEMBLY])?;
+    let text = PLAIN_TEXT.strip_prefix("file T 1536\n").unwrap_or("");
+    let text = format!(in alloc; "file T 16777216\n{text}{ASSEMBLY_LINES}")?;
     expect(&rt, alloc, "dump T", bytes.clone()?, 0, text.as_str())?;
     bytes.push(0)?;
     expect(&rt, alloc, "dump T", bytes, 4, "refused: TooLong T\n")
@@ -327,10 +367,10 @@ fn files_around_the_limit(rt: HostRuntime) -> Result<(), Fail> {
 fn outputs_that_fail(rt: HostRuntime) -> Result<(), Fail> {
     let alloc = rt.alloc();
     let words = words_of(alloc, "dump T")?;
-    let mut files = one_file(alloc, "T", file_of(alloc, 1024, &[LEAST])?)?;
+    let mut files = one_file(alloc, "T", file_of(alloc, 1536, &[LEAST, ASSEMBLY])?)?;
     let mut out = MemSink::new(alloc, 10, Vec::new(alloc))?;
     assert_eq!(rt; r2r(&rt, alloc, &words, &mut files, &mut out, &OpenGate), 5);
-    assert_eq!(rt; out.bytes(), b"file T 102".as_slice());
+    assert_eq!(rt; out.bytes(), b"file T 153".as_slice());
     // A refusal keeps its status.
     let mut short = MemSink::new(alloc, 4, Vec::new(alloc))?;
     assert_eq!(rt; r2r(&rt, alloc, &[], &mut files, &mut short, &OpenGate), 1);
@@ -359,7 +399,7 @@ fn expect_run<R: Threads + Sync + Abort>(
     code: u8,
     text: &str,
 ) -> Result<(), Fail> {
-    let mut files = one_file(alloc, "T", file_of(alloc, 1024, &[LEAST])?)?;
+    let mut files = one_file(alloc, "T", file_of(alloc, 1536, &[LEAST, ASSEMBLY])?)?;
     let mut out = MemSink::new(alloc, 2_000, Vec::new(alloc))?;
     let ended = program::run(rt, alloc, args, &mut files, &mut out, &OpenGate);
     assert_eq!(rt; ended, ExitCode::from(code));
@@ -370,8 +410,9 @@ fn expect_run<R: Threads + Sync + Abort>(
 #[test]
 fn arguments_of_the_program(rt: HostRuntime) -> Result<(), Fail> {
     let alloc = rt.alloc();
+    let dumped = format!(in alloc; "{PLAIN_TEXT}{ASSEMBLY_LINES}")?;
     for (line, code, text) in [
-        ("r2r dump T", 0, LEAST_TEXT),
+        ("r2r dump T", 0, dumped.as_str()),
         ("r2r dump T T", 1, USAGE_LINE),
         ("r2r dump U", 2, "read failed: U\n"),
         ("r2r", 1, USAGE_LINE),

@@ -15,7 +15,7 @@ use std::alloc::Global;
 use std::thread::Threads;
 
 /// Runs the command that the words are, over these files and this output, and answers the status that the
-/// program ends with. `words` leaves out the program's name.
+/// program ends with. `words` are the arguments after the program's name.
 ///
 /// The status is 0 where all was written; 1 where the words are no command; 2 where a file could not be read; 3
 /// where a file is malformed; 4 where a named condition refuses: the file is above `rtr_outside::FILE_LIMIT`; 5

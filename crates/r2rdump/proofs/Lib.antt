@@ -3,3 +3,7 @@ pub mod Numbered
 pub mod NoNative
 pub mod Parts
 pub mod SlotsOfSections
+pub mod Lowest
+pub mod Listed
+pub mod RowsOfFile
+mod Examples

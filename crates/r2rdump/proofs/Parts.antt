@@ -13,7 +13,8 @@ use Rattle.r2rdump.specs.OnePass.{image_in_one_pass, imports_in_one_pass}
 four : (self a b c d one two three : List ℕ) → one ≡ self ++ a → two ≡ one ++ b → three ≡ two ++ c → three ++ d ≡ self ++ (a ++ b ++ c ++ d)
 four self a b c d one two three e f g = rw (g, f, e) (simp append_assoc)
 
-pub image_parts : {T E : Type 0} (image : Image) (own : Bool) (sections : List RtrSection) (imports : List ImportSection) (slots : List Slot)
+pub image_parts : {T E : Type 0} (image : Image) (own : Bool) (sections : List RtrSection)
+    (imports : List ImportSection) (slots : List Slot)
     (functions : List Function) (entries : List EntryPoint) (self one two three new : List ℕ) (r : Result T E)
     → own ≡ image.own → sections ≡ image.header.sections → imports ≡ image.imports → slots ≡ image.slots
     → functions ≡ image.functions → entries ≡ image.entries

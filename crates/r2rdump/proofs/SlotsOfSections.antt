@@ -1,5 +1,7 @@
 -- The slots that are printed under an import record are its own: the printer takes them from the one list of all slots.
-use Rattle.std.proofs.Common.{◌≡◌, ℕ, zero, suc, ◌+◌, ◌*◌, Bool, true, false, List, [], ◌∷◌, ◌++◌, length, take, drop, cond, Option, Some, None, is_some, refl, sym, ap, subst, ◌∙◌, append_assoc, length-append, arith}
+use Rattle.std.proofs.Common.{◌≡◌, ℕ, zero, suc, ◌+◌, ◌*◌, Bool, true, false, List, [], ◌∷◌, ◌++◌, length, take, drop}
+use Rattle.std.proofs.Common.{cond, Option, Some, None, is_some, refl, sym, ap, subst, ◌∙◌, append_assoc, length-append}
+use Rattle.std.proofs.Common.{arith}
 use Rattle.std.specs.Prelude.{if◌then◌else◌}
 use Rattle.std.specs.List.{flat_map}
 use Rattle.std.specs.Option.{option_or, option_to_list}
@@ -14,7 +16,10 @@ use Rattle.rtr_sections.specs.Numbered.{first_bad, present}
 use Rattle.rtr_sections.specs.Header.{header_checks, is_own, part_of}
 use Rattle.rtr_sections.specs.Imports.{all_slots, signatures_at, first_bad_of, first_bad_word, imports_in, slot_count, slot_of, slots_in}
 use Rattle.rtr_sections.specs.Image.{foreign_image_of, if_own, image_of, own_image_of, rtr_checks}
-use Rattle.r2rdump.specs.Text.{entry_line, file_line, header_lines, image_lines, native_line, native_lines, numbered, record_lines, rtr_section_line}
+use Rattle.cli_assembly.specs.Assemblies.{assembly_of}
+use Rattle.r2rdump.specs.Text.{entry_line, file_line, header_lines, image_lines, native_line, native_lines, numbered}
+use Rattle.r2rdump.specs.Text.{record_lines, rtr_section_line}
+use Rattle.r2rdump.specs.Types.{assembly_lines}
 use Rattle.r2rdump.specs.OnePass.{image_in_one_pass, imports_in_one_pass, native_in_one_pass, text_in_one_pass}
 use Rattle.r2rdump.specs.Dump.{dump_text, native_image_of, own_slots}
 
@@ -91,13 +96,15 @@ imports_are true bytes = refl
 imports_are false bytes = refl
 
 slots_are : (own : Bool) (bytes : List ℕ)
-    → (if own then own_image_of bytes else foreign_image_of bytes).slots ≡ (if own then all_slots bytes (imports_in bytes (part_of bytes 101)) else [])
+    → (if own then own_image_of bytes else foreign_image_of bytes).slots
+    ≡ (if own then all_slots bytes (imports_in bytes (part_of bytes 101)) else [])
 unfolding own_image_of foreign_image_of
 slots_are true bytes = refl
 slots_are false bytes = refl
 
 image_records : (bytes : List ℕ) → (is_own bytes ≡ true → first_bad_of bytes (imports_in bytes (part_of bytes 101)) ≡ None)
-    → imports_in_one_pass 0 (image_of bytes).imports (image_of bytes).slots ≡ numbered (record_lines (own_slots bytes)) 0 (image_of bytes).imports
+    → imports_in_one_pass 0 (image_of bytes).imports (image_of bytes).slots
+    ≡ numbered (record_lines (own_slots bytes)) 0 (image_of bytes).imports
 unfolding image_of
 image_records bytes h =
     let imports = imports_are (is_own bytes) bytes in
@@ -132,9 +139,9 @@ all_fixups rows bytes none native own =
 
 -- so what is printed in one pass is the text of the file
 pub one_pass-is : (rows : ℕ) (name bytes : List ℕ) → first_fault (rtr_checks rows) bytes ≡ None
-    → text_in_one_pass name (length bytes) (headers_of bytes) (native_image_of bytes) ≡ dump_text name bytes
+    → text_in_one_pass name (length bytes) (headers_of bytes) (native_image_of bytes) (assembly_of bytes) ≡ dump_text name bytes
 unfolding dump_text
 one_pass-is rows name bytes none =
-    ap (λ (t : List ℕ). file_line name (length bytes) ++ header_lines (headers_of bytes) ++ t)
+    ap (λ (t : List ℕ). file_line name (length bytes) ++ header_lines (headers_of bytes) ++ t ++ assembly_lines (assembly_of bytes))
     (native_is (is_some (native_of bytes)) (own_slots bytes) (image_of bytes)
     (λ native. image_is bytes (image_of bytes) (image_records bytes (all_fixups rows bytes none native))))

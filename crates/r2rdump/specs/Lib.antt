@@ -1,3 +1,4 @@
 pub mod Text
+pub mod Types
 pub mod OnePass
 pub mod Dump

@@ -7,7 +7,10 @@ use Rattle.rtr_sections.specs.declared.imports.ImportSection.{ImportSection}
 use Rattle.rtr_sections.specs.declared.slots.Slot.{Slot}
 use Rattle.rtr_sections.specs.declared.image.Image.{Image}
 use Rattle.rtr_sections.specs.Imports.{slot_count}
-use Rattle.r2rdump.specs.Text.{numbered, newline, file_line, header_lines, native_line, rtr_section_line, import_line, slot_line, entry_line}
+use Rattle.cli_assembly.specs.Assemblies.{Assembly}
+use Rattle.r2rdump.specs.Text.{numbered, newline, file_line, header_lines, native_line, rtr_section_line, import_line}
+use Rattle.r2rdump.specs.Text.{slot_line, entry_line}
+use Rattle.r2rdump.specs.Types.{assembly_lines}
 
 -- a record's slots are the first of what is left; a foreign image has none
 abbrev pub imports_in_one_pass : ℕ → List ImportSection → List Slot → List ℕ
@@ -25,5 +28,6 @@ abbrev pub native_in_one_pass : Option Image → List ℕ
 native_in_one_pass None = codes "native none" ++ newline
 native_in_one_pass (Some image) = image_in_one_pass image
 
-abbrev pub text_in_one_pass : List ℕ → ℕ → Headers → Option Image → List ℕ
-text_in_one_pass name len pe image = file_line name len ++ header_lines pe ++ native_in_one_pass image
+abbrev pub text_in_one_pass : List ℕ → ℕ → Headers → Option Image → Assembly → List ℕ
+text_in_one_pass name len pe image assembly =
+    file_line name len ++ header_lines pe ++ native_in_one_pass image ++ assembly_lines assembly

@@ -1,5 +1,6 @@
 -- The text of a dump, over the records of a file.
-use Rattle.std.specs.Prelude.{ℕ, ◌+◌, ◌/◌, ◌%◌, ◌^◌, ◌==◌, ◌&&◌, ◌||◌, List, [], ◌∷◌, ◌++◌, length, map, codes, decimal, slice_index_or, Bool, Option, Some, None, nat_le, nat_lt, if◌then◌else◌}
+use Rattle.std.specs.Prelude.{ℕ, ◌+◌, ◌/◌, ◌%◌, ◌^◌, ◌==◌, ◌&&◌, ◌||◌, List, [], ◌∷◌, ◌++◌, length, map, codes, decimal}
+use Rattle.std.specs.Prelude.{slice_index_or, Bool, Option, Some, None, nat_le, nat_lt, if◌then◌else◌}
 use Rattle.std.specs.List.{flat_map, list_all}
 use Rattle.std.specs.Int.{w16, w32, to_be_bytes}
 use Rattle.hex.specs.Hex.{encode_lower}
@@ -22,7 +23,7 @@ hex4 n = encode_lower (to_be_bytes w16 n)
 abbrev pub hex8 : ℕ → List ℕ
 hex8 n = encode_lower (to_be_bytes w32 n)
 
--- a name of any kind: a question mark stands for each control character
+-- a name of any kind, with a question mark for each control character
 abbrev pub printed_name : List ℕ → List ℕ
 printed_name name = map (λ b. if nat_lt b 0x20 || b == 0x7F then 0x3F else b) name
 
@@ -31,7 +32,7 @@ abbrev pub trimmed : List ℕ → List ℕ
 trimmed [] = []
 trimmed (b ∷ bytes) = if list_all (λ c. c == 0) (b ∷ bytes) then [] else b ∷ trimmed bytes
 
--- the name of a PE section: a question mark stands for each byte that is no visible character of ASCII
+-- the name of a PE section, with a question mark for each byte that is no visible character of ASCII
 abbrev pub section_name : List ℕ → List ℕ
 section_name name = map (λ b. if nat_le 0x21 b && nat_le b 0x7E then b else 0x3F) (trimmed name)
 
@@ -119,7 +120,7 @@ entry_line_of entry function =
 abbrev pub entry_line : List Function → EntryPoint → List ℕ
 entry_line functions entry = entry_line_of entry (function_at functions entry.function)
 
--- ---- all of them
+-- ---- the ReadyToRun part
 
 -- an image whose import records have these slots
 abbrev pub image_lines : (ImportSection → List Slot) → Image → List ℕ
@@ -130,7 +131,3 @@ image_lines slots_of image =
 abbrev pub native_lines : (ImportSection → List Slot) → Option Image → List ℕ
 native_lines slots_of None = codes "native none" ++ newline
 native_lines slots_of (Some image) = image_lines slots_of image
-
--- the text of a file of a name and a length that has these headers and this ReadyToRun part, with the slots of its import records
-abbrev pub text_of : List ℕ → ℕ → Headers → (ImportSection → List Slot) → Option Image → List ℕ
-text_of name len pe slots_of image = file_line name len ++ header_lines pe ++ native_lines slots_of image

@@ -15,9 +15,6 @@ use std::alloc::Global;
 /// The table of MethodDef in the top byte of its tokens (ECMA-335 II.22.26).
 const METHOD_DEF: u32 = 0x0600_0000;
 
-/// The bytes of a cell of an image of this compiler.
-const CELL_SIZE: u32 = 8;
-
 /// How many cells of EntrySize bytes an import record has room for, and none where that is 0.
 fn cell_count(import: &ImportSection) -> u32
     ensures { result ≡ cell_count import.now }
@@ -58,7 +55,7 @@ fn function_at(functions: &[Function], index: u32) -> Function
 }
 
 /// The token of a MethodDef row.
-fn method_token(row: u32) -> u32
+pub(crate) fn method_token(row: u32) -> u32
     ensures { result ≡ method_token row }
 {
     METHOD_DEF.wrapping_add(row)
@@ -139,7 +136,7 @@ impl Text {
         let mut rest = slots;
         for (number, import) in imports.iter().enumerate() {
             self.import_line(number, import)?;
-            let (of_import, others) = split_slots(rest, import.size / CELL_SIZE);
+            let (of_import, others) = split_slots(rest, import.slot_count());
             self.slot_lines(alloc, of_import)?;
             rest = others;
         }

@@ -1,15 +1,19 @@
 //! The text of a dump.
 //!
-//! [`dump_text`] prints the records of a file: its PE headers, its CLI header and its ReadyToRun part. The text is
-//! made whole in memory, by a [`Text`], before any of it is written.
+//! [`dump_text`] prints the records of a file: its PE headers, its CLI header, its ReadyToRun part, and its types with
+//! their methods. The text is made whole in memory, by a [`Text`], before any of it is written.
 #![tactic(auto)]
 
 mod dump;
 mod headers;
 mod image;
+mod laws;
+mod rows;
 mod text;
+mod types;
 
 pub use dump::{DumpRefusal, dump_text};
+pub use laws::fault_is_the_lower;
 pub use text::Text;
 
 #[cfg(test)]

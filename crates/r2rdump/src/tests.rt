@@ -7,10 +7,26 @@ use std::alloc::Global;
 use std::process::Abort;
 use std::test::Fail;
 
-/// A file of 1,024 bytes, zeros but for these: a place, and from there on bytes in hexadecimal. PE32+ for A64, one
-/// section, a CLI header and 20 bytes of metadata.
+/// A file of 1,536 bytes, zeros but for these: a place, and from there on bytes in hexadecimal. PE32+ for A64, one
+/// section and a CLI header.
 const HEADERS: &str = "@0 4d5a @60 40 @64 50450000 64aa01 @84 f000 @88 0b02 @196 10 @312 0010000048
 @328 2e74657874 @336 0002 @340 0010 @344 0002 @348 0002 @512 48 @520 4810000014 @528 01";
+
+/// An assembly A: A.C with a method F, and D with G, which has no signature, and H, whose name begins with 7F.
+const ASSEMBLY: &str =
+    "@337 04 @345 04 @520 00120000fc @1024 42534a42010001 @1036 0c00000076342e302e3330333139 @1054
+03005000000090000000237e0000e00000001000000023537472696e6773 @1088 f00000000c00000023426c6f62 @1108
+020000014500000001 @1128 01000000020000000300000001 @1146 01 @1154 01001000030001000000010001000100100005 @1178
+01000200fc12 @1188 96000700010001 @1202 86000900000001 @1216 86000b00060001 @1242 01 @1249 410043004400460047007f48
+@1265 04000108080320000100000a022a";
+
+const ASSEMBLY_LINES: &str = "assembly A
+type 02000001 A.C
+method 06000001 F 00010808
+type 02000002 D
+method 06000002 G 
+method 06000003 ?H 200001
+";
 
 /// The ReadyToRun part: two import sections with two slots and one, two functions, and two entries, of which the
 /// second has a list of a slot of each section.
@@ -21,9 +37,9 @@ const IMAGE: &str = "@576 801000004c @640 52545200 05000000 00000000 05000000
 @776 30110000 32110000 35110000 @816 1a08 1c1205 1403
 @824 60110000 58110000 68110000 5c110000 @840 100102020216000a10100000 @856 08000000 04000000";
 
-const TEXT: &str = "file T 1024
+const TEXT: &str = "file T 1536
 machine aa64 magic 020b
-.text rva 00001000 size 00000200 file 00000200 raw 00000200
+.text rva 00001000 size 00000400 file 00000200 raw 00000400
 cli flags 00000001 entry 00000000
 native own 5.0 flags 00000000 sections 5
 rtr 100 rva 000010d0 size 0000000e
@@ -43,9 +59,9 @@ entry 06000002 function 1 begin 00001168 length 4 fixups 0.1 1.0
 /// Another identifier, and cells of 4 bytes in one record and of no size in the other.
 const FOREIGN: &str = "@720 52 @744 03020104 @764 00000300";
 
-const FOREIGN_TEXT: &str = "file T 1024
+const FOREIGN_TEXT: &str = "file T 1536
 machine aa64 magic 020b
-.text rva 00001000 size 00000200 file 00000200 raw 00000200
+.text rva 00001000 size 00000400 file 00000200 raw 00000400
 cli flags 00000001 entry 00000000
 native foreign 5.0 flags 00000000 sections 5
 rtr 100 rva 000010d0 size 0000000e
@@ -59,8 +75,8 @@ import 1 rva 00001128 size 00000008 flags 0000 type 3 entry 0 slots 0
 
 /// The file with some bytes written over it.
 fn file_with(alloc: Global, changes: &str) -> Result<Vec<u8>, Fail> {
-    let mut bytes = vec![in alloc; 0u8; 1024]?;
-    for piece in [HEADERS, IMAGE, changes] {
+    let mut bytes = vec![in alloc; 0u8; 1536]?;
+    for piece in [HEADERS, ASSEMBLY, IMAGE, changes] {
         let mut at = 0;
         for word in piece.split_whitespace() {
             match word.strip_prefix('@') {
@@ -106,8 +122,11 @@ fn expect<R: Abort>(
 #[test]
 fn whole_texts(rt: HostRuntime) -> Result<(), Fail> {
     let alloc = rt.alloc();
-    expect(&rt, alloc, "", 2_000, Ok(()), TEXT)?;
-    expect(&rt, alloc, FOREIGN, 2_000, Ok(()), FOREIGN_TEXT)
+    for (changes, text) in [("", TEXT), (FOREIGN, FOREIGN_TEXT)] {
+        let text = format!(in alloc; "{text}{ASSEMBLY_LINES}")?;
+        expect(&rt, alloc, changes, 2_000, Ok(()), text.as_str())?;
+    }
+    Ok(())
 }
 
 #[test]
@@ -119,7 +138,7 @@ fn refusals(rt: HostRuntime) -> Result<(), Fail> {
         "",
         10,
         Err(DumpRefusal::SinkFailed),
-        "file T 102",
+        "file T 153",
     )?;
     let fault = Fault {
         check: 61,

@@ -41,7 +41,7 @@ impl Text {
         self.bytes.as_slice()
     }
 
-    /// Adds words as they stand.
+    /// Adds words as they are.
     pub fn words(&mut self, words: &str) -> Result<(), NoMemory>
         ensures { OnOk result (self.new ≡ self.old ++ words.now) }
     {
@@ -58,7 +58,7 @@ impl Text {
         Ok(())
     }
 
-    /// Adds words, and a number in eight digits of hexadecimal.
+    /// Adds words, and a number in eight lower-case digits of hexadecimal.
     pub fn hex32(&mut self, words: &str, number: u32) -> Result<(), NoMemory>
         ensures { OnOk result (self.new ≡ self.old ++ words.now ++ hex8 number) }
     {
@@ -67,7 +67,7 @@ impl Text {
         self.words_and(words, &digits)
     }
 
-    /// Adds words, and a number in four digits of hexadecimal.
+    /// Adds words, and a number in four lower-case digits of hexadecimal.
     pub fn hex16(&mut self, words: &str, number: u16) -> Result<(), NoMemory>
         ensures { OnOk result (self.new ≡ self.old ++ words.now ++ hex4 number) }
     {
@@ -83,18 +83,26 @@ impl Text {
         self.words_and(words, Buffer::new().format(number).as_bytes())
     }
 
-    /// Adds words, and a fixup's signature in its shortest spelling, in hexadecimal.
+    /// Adds words, and a fixup's signature in its shortest spelling, in lower-case hexadecimal. The fixup is one that
+    /// has a signature.
     pub fn signature(&mut self, alloc: Global, words: &str, fixup: &Fixup) -> Result<(), NoMemory>
         requires { IsSpellable fixup.now }
         ensures { OnOk result (self.new ≡ self.old ++ words.now ++ encode_lower (fixup_bytes fixup.now)) }
     {
         let mut signature = Vec::new(alloc);
         write_fixup(&mut signature, fixup)?;
-        let digits = hex::encode(alloc, signature)?;
+        self.hex(alloc, words, &signature)
+    }
+
+    /// Adds words, and bytes in hexadecimal.
+    pub fn hex(&mut self, alloc: Global, words: &str, bytes: &[u8]) -> Result<(), NoMemory>
+        ensures { OnOk result (self.new ≡ self.old ++ words.now ++ encode_lower bytes.now) }
+    {
+        let digits = hex::encode(alloc, bytes)?;
         self.words_and(words, digits.as_bytes())
     }
 
-    /// Adds words, and a name with a question mark for each control character.
+    /// Adds words, and a name with a question mark for each control character: each byte below 0x20, and 0x7F.
     pub fn name(&mut self, words: &str, name: &str) -> Result<(), NoMemory>
         ensures { OnOk result (self.new ≡ self.old ++ words.now ++ printed_name name.now) }
     {
@@ -106,7 +114,8 @@ impl Text {
         Ok(())
     }
 
-    /// Adds the name of a PE section, with a question mark for each byte that is no visible character.
+    /// Adds the name of a PE section without its trailing zeros, with a question mark for each byte outside 0x21 to
+    /// 0x7E.
     pub fn section_name(&mut self, name: &[u8]) -> Result<(), NoMemory>
         ensures { OnOk result (self.new ≡ self.old ++ section_name name.now) }
     {

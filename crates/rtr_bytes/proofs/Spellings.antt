@@ -1,5 +1,6 @@
--- What stands at the front of bytes, and what is written behind others.
-use Rattle.std.proofs.Common.{◌≡◌, ◌≤◌, ◌<◌, ◌^◌, ◌+◌, ◌-◌, ◌*◌, ℕ, List, [], ◌∷◌, ◌++◌, length, drop, get_or, refl, sym, ap, ◌∙◌, arith, rules, append_assoc, length-drop}
+-- What bytes begin with, and what is written after others.
+use Rattle.std.proofs.Common.{◌≡◌, ◌≤◌, ◌<◌, ◌^◌, ◌+◌, ◌-◌, ◌*◌, ℕ, List, [], ◌∷◌, ◌++◌, length, drop, get_or, refl}
+use Rattle.std.proofs.Common.{sym, ap, ◌∙◌, arith, rules, append_assoc, length-drop}
 use Rattle.std.specs.List.{slice_range}
 use Rattle.std.proofs.Math.Seq.{drop-append_seam}
 use Rattle.std.proofs.lemmas.List.{take_all, get_or-drop}
@@ -70,6 +71,7 @@ below_29 bytes at n next (spelling, rest, whole, spelled, size) = spelled_below 
 pub compressed_spells : (n : ℕ) → n < 2 ^ 29 → IsCompressed (compressed_bytes n) n
 compressed_spells n h = search rules
 
--- what is written behind other bytes begins there
-pub begins_behind : (spelling before rest : List ℕ) (n : ℕ) → IsCompressed spelling n → BeginsAt IsCompressed (before ++ spelling ++ rest) (length before) n (length before + length spelling)
+-- what is written after other bytes begins there
+pub begins_behind : (spelling before rest : List ℕ) (n : ℕ) → IsCompressed spelling n
+    → BeginsAt IsCompressed (before ++ spelling ++ rest) (length before) n (length before + length spelling)
 begins_behind spelling before rest n spelled = (spelling, rest, rw append_assoc (drop-append_seam before (spelling ++ rest)), spelled, refl)

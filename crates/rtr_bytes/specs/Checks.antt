@@ -27,12 +27,12 @@ abbrev pub first_fault : List Check → List ℕ → Option Fault
 first_fault [] bytes = None
 first_fault (c ∷ checks) bytes = fault_or c.number (c.failing_place bytes) (first_fault checks bytes)
 
--- the place of the first of n records, each size bytes behind the one before, that fails a test of its place
+-- the place of the first of n records, each size bytes after the one before, that fails a test of its place
 abbrev pub first_record : (ℕ → Bool) → ℕ → ℕ → ℕ → Option ℕ
 first_record test at size zero = None
 first_record test at size (suc n) = if test at then first_record test (at + size) size n else Some at
 
--- n records, each size bytes behind the one before
+-- n records, each size bytes after the one before
 abbrev pub records : {X : Type 0} → (ℕ → X) → ℕ → ℕ → ℕ → List X
 records record_at at size zero = []
 records record_at at size (suc n) = record_at at ∷ records record_at (at + size) size n

@@ -3,8 +3,8 @@ use Rattle.std.specs.Prelude.{◌≡◌, ◌≤◌, ◌<◌, ℕ, ◌+◌, ◌-�
 use Rattle.std.specs.Option.{option_map}
 use Rattle.byteorder.specs.Endian.{big_bytes}
 
--- The bytes spell the number, the most significant byte first: behind a top bit 0 there are 7 bits, behind
--- 10 there are 14 in two bytes, and behind 110 there are 29 in four.
+-- The bytes spell the number, the most significant byte first: after a top bit 0 there are 7 bits, after
+-- 10 there are 14 in two bytes, and after 110 there are 29 in four.
 abbrev pub IsCompressed : List ℕ → ℕ → Type 0
 IsCompressed (a ∷ []) n = (a < 0x80) × (n ≡ a)
 IsCompressed (a ∷ b ∷ []) n = (0x80 ≤ a) × (a < 0xC0) × (b < 256) × (n ≡ (a - 0x80) * 256 + b)

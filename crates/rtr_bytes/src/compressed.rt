@@ -7,9 +7,9 @@ ghost use Rattle.rtr_bytes.specs.Spelling.{BeginsAt, NoneBeginsAnother};
 use crate::fault::NoMemory;
 use byteorder::{BigEndian, ByteOrder};
 
-/// The compressed unsigned integer at a file offset, and the offset after it. A longer spelling than the
-/// number needs is read too. `None` exactly where none is spelled there: the bytes are cut, or the first one
-/// has the top bits 111.
+/// The compressed unsigned integer at a file offset, and the offset after it (ECMA-335 II.23.2). A longer spelling than
+/// the number needs is read too. `None` exactly where none is spelled there: the bytes are cut, or the first one has
+/// the top bits 111. `bytes` has at most 2^31 bytes.
 #[tactic(auto, unfolding(crate::specs::Compressed::compressed_at))]
 pub fn compressed_at(bytes: &[u8], at: u32) -> Option<(u32, u32)>
     requires { length bytes.now ≤ 2 ^ 31 }
@@ -32,7 +32,8 @@ pub fn compressed_at(bytes: &[u8], at: u32) -> Option<(u32, u32)>
     }
 }
 
-/// Appends a number in its shortest spelling. After an `Err` the vector has what it had.
+/// Appends a number below 2^29 in its shortest spelling (ECMA-335 II.23.2). `NoMemory` comes where memory is refused,
+/// and then the vector has what it had.
 pub fn put_compressed(out: &mut Vec<u8>, value: u32) -> Result<(), NoMemory>
     requires { value < 2 ^ 29 }
     ensures written { OnOk result (out.new.items ≡ out.old.items ++ compressed_bytes value) }
@@ -54,7 +55,7 @@ pub fn no_compressed_begins_another()
     ensures { NoneBeginsAnother IsCompressed }
 {}
 
-/// The law of the spelling that [`put_compressed`] writes.
+/// The law of the spelling that [`put_compressed`] writes: it is a spelling of the number, and none is shorter.
 pub fn shortest_compressed()
     ensures spells { (n : ℕ) → n < 2 ^ 29 → IsCompressed (compressed_bytes n) n }
     // No other spelling of the number is shorter.

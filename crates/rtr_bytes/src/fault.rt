@@ -15,7 +15,7 @@ pub struct Fault {
     pub place: u32,
 }
 
-/// Refuses with a check at a place, unless it holds.
+/// `Ok` exactly where a check holds; else the fault of that check, by its number, at a file offset.
 pub fn ensure(holds: bool, check: u16, place: u32) -> Result<(), Fault>
     ensures holds { OnOk result (holds ≡ true) }
     ensures fault { IfErr result (λ f. (holds ≡ false) × (f ≡ record { check = check; place = place })) }
@@ -36,12 +36,12 @@ pub struct Span {
     pub len: u32,
 }
 
-/// Memory was refused.
+/// Memory was refused: the one refusal of a call that only allocates.
 #[derive(Clone, Copy, Debug, PartialEq, Eq, Error)]
 #[error("out of memory")]
 pub struct NoMemory;
 
-/// Why a reader gave up.
+/// Why a reader answers no records.
 #[derive(Clone, Copy, Debug, PartialEq, Eq, Error)]
 pub enum ReadRefusal {
     /// The bytes fail a check. It is the first that they fail, with its first place.

@@ -1,5 +1,7 @@
 -- The files of a list by their names, as the finite map of that list.
-use Rattle.std.proofs.Common.{◌≡◌, ℕ, ◌≢◌, Bool, true, false, cond, List, [], ◌∷◌, ◌++◌, map, position, get_or, Option, Some, None, Vec, Result, Ok, Err, is_ok, OnOk, if◌then◌else◌, string_bytes, vec_items, refl, ap, sym, ◌∙◌}
+use Rattle.std.proofs.Common.{◌≡◌, ℕ, ◌≢◌, Bool, true, false, cond, List, [], ◌∷◌, ◌++◌, map, position, get_or, Option}
+use Rattle.std.proofs.Common.{Some, None, Vec, Result, Ok, Err, is_ok, OnOk, if◌then◌else◌, string_bytes, vec_items}
+use Rattle.std.proofs.Common.{refl, ap, sym, ◌∙◌}
 use Rattle.std.proofs.Math.ListN.{set}
 use Rattle.std.proofs.lemmas.Option.{cond_some, slice_get_past, slice_get-get_or}
 use Rattle.std.proofs.lemmas.Bool.{ltb-false}

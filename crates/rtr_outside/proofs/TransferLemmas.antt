@@ -1,5 +1,6 @@
 -- Readers and writers that give and take a list of bytes piece by piece.
-use Rattle.std.proofs.Common.{◌≡◌, ℕ, ◌+◌, ◌-◌, ◌≤◌, List, [], ◌++◌, take, drop, length, Option, None, Some, ap, sym, ◌∙◌, append_assoc, take-append-drop, length-append, length-drop, arith}
+use Rattle.std.proofs.Common.{◌≡◌, ℕ, ◌+◌, ◌-◌, ◌≤◌, List, [], ◌++◌, take, drop, length, Option, None, Some, ap, sym}
+use Rattle.std.proofs.Common.{◌∙◌, append_assoc, take-append-drop, length-append, length-drop, arith}
 use Rattle.std.proofs.lemmas.List.{take_all}
 use Rattle.std.specs.Io.KnownBytes.{Appends, Consumes, Keeps}
 use Rattle.rtr_outside.specs.Transfer.{ConsumesAtMost}

@@ -1,9 +1,8 @@
 //! The moment before a call cell is bound.
 
-/// Is called before each binding of a call cell.
+/// What is to be called before each binding of a call cell.
 pub trait Gate: Sync {
-    /// Called by a worker, numbered from 0, before each binding of a call cell. It changes nothing that a
-    /// contract sees.
+    /// To be called by a worker, numbered from 0, before it binds a call cell. It changes nothing that a contract sees.
     fn before_bind(&self, worker: u32);
 }
 

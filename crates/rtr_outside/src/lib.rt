@@ -3,9 +3,9 @@
 //! Code that is generic over these traits sees the outside by their ghost members alone. A failed call is one
 //! that the object itself has recorded, so such code cannot make one up.
 //!
-//! There are three of each: [`MemFiles`] and [`MemSink`] in memory, which expose their bytes and of which chosen
-//! calls fail; [`SureFiles`] and [`SureSink`], which never fail and expose no bytes; and [`RealFiles`] and
-//! [`RealSink`] of the system, which expose no bytes, and record their failed calls and count their faults.
+//! Files and sinks come in three kinds: [`MemFiles`] and [`MemSink`] in memory, which expose their bytes and of which
+//! chosen calls fail; [`SureFiles`] and [`SureSink`], which never fail and expose no bytes; and [`RealFiles`] and
+//! [`RealSink`] of the system, which expose no bytes, record their failed calls and count their faults.
 #![tactic(auto)]
 
 mod calls;

@@ -98,8 +98,9 @@ impl Files for MemFiles {
 
     ghost failed_calls = { λ m. m.failed };
 
-    /// The bytes of a name. `Failed` comes exactly where the call's number is one of those that fail or there is no
-    /// such name, `TooLong` where it has more than [`FILE_LIMIT`] bytes, and `NoMemory` where memory is refused.
+    /// The bytes of a name. `NoMemory` comes where memory is refused. Else `Failed` comes exactly where the call's
+    /// number is one of those that fail or there is no such name, and `TooLong` where it has more than [`FILE_LIMIT`]
+    /// bytes.
     fn read(&mut self, name: &str) -> Result<Vec<u8>, FileRefusal>
         ensures fails { FailsExactlyWhere (ReadFails self.old name.now) result }
         ensures bytes { IfOk result (λ bytes. bytes_of self.old.files name.now ≡ Some bytes.items) }
@@ -131,8 +132,8 @@ impl Files for MemFiles {
         Ok(bytes)
     }
 
-    /// Gives a name these bytes. `Failed` comes exactly where the call's number is one of those that fail, and
-    /// `NoMemory` where memory is refused. After a refusal every name has what it had.
+    /// Gives a name these bytes. `NoMemory` comes where memory is refused; else `Failed` comes exactly where the call's
+    /// number is one of those that fail. After a refusal every name has what it had.
     fn write(&mut self, name: &str, bytes: &[u8]) -> Result<(), FileRefusal>
         ensures fails { FailsExactlyWhere (IsToFail self.old) result }
         ensures not_too_long { result ≢ Err FileRefusal.TooLong }

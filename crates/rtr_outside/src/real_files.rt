@@ -49,8 +49,9 @@ impl<R: rt::Files> Files for RealFiles<R> {
 
     ghost failed_calls = { λ r. r };
 
-    /// The bytes of a file, of which at most one more than [`FILE_LIMIT`] is read. The system is called only once the
-    /// record of failed calls has room for this one.
+    /// The bytes of a file, of which at most one more than [`FILE_LIMIT`] is read. `Failed` comes where the system
+    /// refuses to open or to read it, `TooLong` where it has more bytes than the limit, and `NoMemory` where memory is
+    /// refused. The system is called only once the record of failed calls has room for this one.
     fn read(&mut self, name: &str) -> Result<Vec<u8>, FileRefusal>
         ensures failed { self.new ≡ calls_after (read_call name.now) result self.old }
         ensures bounded { IfOk result (λ bytes. length bytes.items ≤ FILE_LIMIT) }
@@ -63,8 +64,9 @@ impl<R: rt::Files> Files for RealFiles<R> {
         answer
     }
 
-    /// Makes the file, or cuts it, and writes all bytes. A write that takes nothing fails. The system is called only
-    /// once the record of failed calls has room for this one.
+    /// Makes the file, or cuts it, and writes all bytes. `Failed` comes where the system refuses to make or to write
+    /// it, or a write takes nothing, and `NoMemory` where memory is refused. The system is called only once the record
+    /// of failed calls has room for this one.
     fn write(&mut self, name: &str, bytes: &[u8]) -> Result<(), FileRefusal>
         ensures failed { self.new ≡ calls_after (write_call name.now) result self.old }
         ensures not_too_long { result ≢ Err FileRefusal.TooLong }

@@ -5,7 +5,7 @@ ghost use Rattle.rtr_outside.specs.Sink.{Rose, Appends, PrintsFront};
 
 use thiserror::Error;
 
-/// The sink took nothing.
+/// A write of a sink failed.
 #[derive(Clone, Copy, Debug, PartialEq, Eq, Error)]
 #[error("the write failed")]
 pub struct SinkFailed;
@@ -15,7 +15,7 @@ pub trait Sink {
     /// The bytes that it has taken so far, where it exposes them.
     ghost written: { Self → Option (List ℕ) };
 
-    /// How many faults it has had. The count stays at 2^64 - 1 once it is there.
+    /// How many faults it has had; the count stays at 2^64 - 1 once it is there.
     ghost faults: { Self → ℕ };
 
     /// Takes the first bytes of a piece, at least one where it isn't empty, and answers how many. `SinkFailed` comes

@@ -45,8 +45,8 @@ impl Files for SureFiles {
 
     ghost failed_calls = { λ _. [] };
 
-    /// The bytes of a name, and none where there is no such name. `TooLong` comes exactly where they are more than
-    /// [`FILE_LIMIT`], and `NoMemory` where memory is refused.
+    /// The bytes of a name, and none where there is no such name. `TooLong` comes only where they are more than
+    /// [`FILE_LIMIT`], and such bytes are never answered; `NoMemory` comes where memory is refused.
     fn read(&mut self, name: &str) -> Result<Vec<u8>, FileRefusal>
         ensures never_fails { result ≢ Err FileRefusal.Failed }
         ensures bytes { IfOk result (λ bytes. bytes.items ≡ read_of self.old name.now) }
@@ -76,8 +76,10 @@ impl Files for SureFiles {
 pub struct SureSink;
 
 impl SureSink {
-    /// A sink that never fails.
-    pub fn new() -> SureSink {
+    /// A sink that never fails. It has no state.
+    pub fn new() -> SureSink
+        ensures { result ≡ record {} }
+    {
         SureSink
     }
 }

@@ -6,6 +6,7 @@ use Rattle.rtr_bytes.specs.declared.fault.Span.{Span}
 use Rattle.rtr_bytes.specs.Checks.{fault_or, first_fault}
 use Rattle.pe_image.specs.Headers.{native_of}
 use Rattle.native_format.specs.Laws.{WrittenIsRead}
+use Rattle.fixup_sigs.specs.Laws.{WrittenFixupIsRead}
 use Rattle.rtr_sections.specs.declared.entries.EntryPoint.{EntryPoint}
 use Rattle.rtr_sections.specs.declared.functions.Function.{Function}
 use Rattle.rtr_sections.specs.declared.header.RtrHeader.{RtrHeader}
@@ -35,37 +36,44 @@ passes n true true o others e h = rw e h
 passes n true false o others e h = h
 passes n false own o others e h = h
 
-pub well_formed : WrittenIsRead → (file : List ℕ) (plan : Image) (at rows : ℕ) → IsPlan plan at → FitsTypes plan → Carries file plan at rows
+pub well_formed : WrittenIsRead → WrittenFixupIsRead → (file : List ℕ) (plan : Image) (at rows : ℕ) → IsPlan plan at → FitsTypes plan
+    → Carries file plan at rows
     → first_fault (rtr_checks rows) file ≡ None
-well_formed laws file plan at rows p f c =
+well_formed laws law file plan at rows p f c =
     let native : is_some (native_of file) ≡ true = ap (λ (t : Option Span). is_some t) c.native in
     let n = is_some (native_of file) in
     let o = is_own file in
     after_imports rows file native (header_well_formed file plan at rows p f c) (cells_placed file plan at rows p f c)
     ∙ passes 60 n o (foreign_import file (part_of file 101)) _ (forms_own file plan at rows p f c)
-    (passes 61 n o (first_bad_of file (imports_in file (part_of file 101))) _ (slots_good file plan at rows p f c)
+    (passes 61 n o (first_bad_of file (imports_in file (part_of file 101))) _ (slots_good law file plan at rows p f c)
     (passes 62 n o (bad_function file (part_of file 102)) _ (functions_good file plan at rows p f c)
     (passes 63 n o (bad_array rows file (part_of file 103)) _ (array_good laws file plan at rows p f c)
     (passes 64 n o (first_cut file (part_of file 103)) _ (paths_good laws file plan at rows p f c)
-    (passes 65 n o (first_unlinked file (part_of file 103) (part_of file 101) (function_count (part_of file 102))) _ (entries_linked laws file plan at rows p f c)
+    (passes 65 n o (first_unlinked file (part_of file 103) (part_of file 101) (function_count (part_of file 102))) _
+    (entries_linked laws file plan at rows p f c)
     (passes 66 n o (out_of_order file (part_of file 101)) None (cells_in_order file plan at rows p f c) refl))))))
 
-same_image : (header other : RtrHeader) (imports imports' : List ImportSection) (slots slots' : List Slot) (functions functions' : List Function) (entries entries' : List EntryPoint) (own own' : Bool)
+same_image : (header other : RtrHeader) (imports imports' : List ImportSection) (slots slots' : List Slot)
+    (functions functions' : List Function) (entries entries' : List EntryPoint) (own own' : Bool)
     → header ≡ other → imports ≡ imports' → slots ≡ slots' → functions ≡ functions' → entries ≡ entries' → own ≡ own'
     → ◌≡◌ {A = Image} (record { header = header; imports = imports; slots = slots; functions = functions; entries = entries; own = own })
     (record { header = other; imports = imports'; slots = slots'; functions = functions'; entries = entries'; own = own' })
-same_image header other imports imports' slots slots' functions functions' entries entries' own own' a b c d e f = rw (a, b, c, d, e, f) refl
+same_image header other imports imports' slots slots' functions functions' entries entries' own own' a b c d e f =
+    rw (a, b, c, d, e, f) refl
 
 own_image : (own : Bool) (a b c : Image) → own ≡ true → a ≡ c → cond own a b ≡ c
 own_image true a b c h e = e
 own_image false a b c h e = absurd (let x : ⊥ = cc in x)
 
-pub image_back : WrittenIsRead → (file : List ℕ) (plan : Image) (at rows : ℕ) → IsPlan plan at → FitsTypes plan → Carries file plan at rows
+pub image_back : WrittenIsRead → WrittenFixupIsRead → (file : List ℕ) (plan : Image) (at rows : ℕ) → IsPlan plan at → FitsTypes plan
+    → Carries file plan at rows
     → image_of file ≡ back_image plan at (native_at file)
 unfolding image_of own_image_of back_image
-image_back laws file plan at rows p f c =
+image_back laws law file plan at rows p f c =
     let own = own_back file plan at rows p f c in
     own_image (is_own file) (own_image_of file) (foreign_image_of file) (back_image plan at (native_at file)) own
-    (same_image (rtr_header_of file) (back_image plan at (native_at file)).header (imports_in file (part_of file 101)) (written_imports plan at) (all_slots file (imports_in file (part_of file 101))) plan.slots
+    (same_image (rtr_header_of file) (back_image plan at (native_at file)).header (imports_in file (part_of file 101))
+    (written_imports plan at) (all_slots file (imports_in file (part_of file 101))) plan.slots
     (functions_in file (part_of file 102)) plan.functions (entries_in file (part_of file 103)) plan.entries (is_own file) true
-    (header_back file plan at rows p f c) (imports_back file plan at rows p f c) (slots_back file plan at rows p f c) (functions_back file plan at rows p f c) (entries_back laws file plan at rows p f c) own)
+    (header_back file plan at rows p f c) (imports_back file plan at rows p f c) (slots_back law file plan at rows p f c)
+    (functions_back file plan at rows p f c) (entries_back laws file plan at rows p f c) own)

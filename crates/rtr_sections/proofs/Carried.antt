@@ -1,4 +1,4 @@
--- A file that was written behind an input carries the part.
+-- A file that was written after an input carries the part.
 use Rattle.std.proofs.Common.{◌≡◌, ℕ, ◌+◌, ◌-◌, ◌≤◌, Bool, List, Option, Some, None, All, length, take, drop, ap, subst, ◌∙◌, arith}
 use Rattle.std.specs.Prelude.{◌==◌, IsSome, if◌then◌else◌, unwrap_or}
 use Rattle.std.proofs.lemmas.Bool.{and_right, ne_eqb}
@@ -8,7 +8,7 @@ use Rattle.pe_image.specs.declared.section.PeSection.{PeSection}
 use Rattle.pe_image.specs.Headers.{cli_at, native_of, native_span, place_of}
 use Rattle.pe_image.specs.Places.{dat_rva}
 use Rattle.pe_image.specs.Written.{HeaderField}
-use Rattle.pe_image.proofs.ReadBack.{same_field}
+use Rattle.rtr_sections.proofs.ByPlace.{same_field}
 use Rattle.rtr_sections.specs.declared.image.Image.{Image}
 use Rattle.rtr_sections.specs.Parts.{header_span, highest_row, part_bytes, thunks_of}
 use Rattle.rtr_sections.specs.Written.{Carries, IsPlaced, IsWrittenAfter}
@@ -41,7 +41,8 @@ carried sections bytes dat cod cli plan file rows b code thunks enough =
     record {
       stands = stands_front file at (part_bytes plan at) b.more (subst (λ (t : List ℕ). Stands file at t) b.begins b.found);
       machine = ap (λ (t : Option ℕ). u16_of file (unwrap_or t 0 + 4)) signature ∙ ap (λ (t : Option ℕ). unwrap_or t 0) machine;
-      native = native_copied file dat start (header_span plan at) (omega arith) b.cli_header.1 b.native_rva b.native_size (λ none. absurd (let x : ⊥ = omega arith in x));
+      native = native_copied file dat start (header_span plan at) (omega arith) b.cli_header.1 b.native_rva b.native_size
+          (λ none. absurd (let x : ⊥ = omega arith in x));
       code = code;
       thunks = thunks;
       enough_rows = enough;

@@ -1,5 +1,6 @@
 -- The entries of a written image, read back.
-use Rattle.std.proofs.Common.{◌≡◌, ℕ, ◌+◌, ◌*◌, ◌^◌, ◌<◌, ◌≤◌, true, List, [], ◌++◌, length, map, take, drop, Some, None, refl, sym, ap, ◌∙◌, subst, arith}
+use Rattle.std.proofs.Common.{◌≡◌, ℕ, ◌+◌, ◌*◌, ◌^◌, ◌<◌, ◌≤◌, true, List, [], ◌++◌, length, map, take, drop, Some, None, refl, sym, ap}
+use Rattle.std.proofs.Common.{◌∙◌, subst, arith}
 use Rattle.std.specs.List.{AllByRecursion, flat_map}
 use Rattle.std.specs.Option.{option_map}
 use Rattle.std.proofs.lemmas.Bool.{le-leb, ne_eqb}
@@ -13,14 +14,16 @@ use Rattle.native_format.specs.Sparse.{element_of}
 use Rattle.native_format.specs.SparseBytes.{HoldsElements, sparse_bytes}
 use Rattle.rtr_sections.specs.declared.entries.EntryPoint.{EntryPoint}
 use Rattle.rtr_sections.specs.declared.image.Image.{Image}
-use Rattle.rtr_sections.specs.Entries.{array_in, bad_array, bytes_in, cut_place, entries_in, entries_of, entry_of, first_cut, first_cut_of, first_unlinked, first_unlinked_of, is_linked, names_slot, unlinked_place}
+use Rattle.rtr_sections.specs.Entries.{array_in, bad_array, bytes_in, cut_place, entries_in, entries_of, entry_of, first_cut, first_cut_of}
+use Rattle.rtr_sections.specs.Entries.{first_unlinked, first_unlinked_of, is_linked, names_slot, unlinked_place}
 use Rattle.rtr_sections.specs.Functions.{function_count}
 use Rattle.rtr_sections.specs.Header.{part_of}
 use Rattle.rtr_sections.specs.Parts.{element_of_entry, entry_bytes, highest_row, import_bytes, parts_of, written_imports}
 use Rattle.rtr_sections.specs.Plan.{IsPlan, Names, RowsAscend}
 use Rattle.rtr_sections.specs.Written.{Carries}
 use Rattle.rtr_sections.proofs.Types.{FitsTypes}
-use Rattle.rtr_sections.proofs.EntriesFound.{HasEntries, IsReadable, all_present, are_elements, entry_answered, entry_of_index, found_has, has_entries, no_cut, none_bad, none_unlinked}
+use Rattle.rtr_sections.proofs.EntriesFound.{HasEntries, IsReadable, all_present, are_elements, entry_answered, entry_of_index, found_has}
+use Rattle.rtr_sections.proofs.EntriesFound.{has_entries, no_cut, none_bad, none_unlinked}
 use Rattle.rtr_sections.proofs.EntriesLinked.{IsSized, all_pass, entry_linked, slot_named}
 use Rattle.rtr_sections.proofs.FunctionsBack.{functions_counted}
 use Rattle.rtr_sections.proofs.HeaderBack.{entries_part, imports_part}
@@ -52,7 +55,11 @@ is_array laws file part entries len same rows small readable =
     let bytes_are : bytes_in file part ≡ entry_bytes entries = ap (λ (n : ℕ). take n (drop part.start file)) len ∙ same in
     let array : HoldsElements (bytes_in file part) (highest_row entries) (map element_of_entry entries) =
     held laws (bytes_in file part) entries bytes_are rows small in
-    record { some = λ none. omega (arith, len, none, bytes_some laws entries); has = has_entries laws file part entries rows readable array }
+    record {
+      some = λ none. omega (arith, len, none, bytes_some laws entries);
+      has = has_entries laws file part entries rows readable
+          array;
+    }
 
 array_is : (file : List ℕ) (part : Span) (entries : List EntryPoint) → (a : IsArray file part entries)
     → array_in file part ≡ Some a.has.array
@@ -99,7 +106,8 @@ all_linked file part imports functions entries linked a =
 -- ---- a plan's
 
 few_functions : (plan : Image) (at : ℕ) → IsPlan plan at → length plan.functions < 2 ^ 24
-few_functions plan at p = let s = are_parts plan in omega (arith, p.small, end-is plan at, s.end, s.entries, s.signatures, s.identifier, s.unwinds)
+few_functions plan at p =
+    let s = are_parts plan in omega (arith, p.small, end-is plan at, s.end, s.entries, s.signatures, s.identifier, s.unwinds)
 
 few_bytes : (plan : Image) (at : ℕ) → IsPlan plan at → length (entry_bytes plan.entries) < 2 ^ 24
 few_bytes plan at p = let s = are_parts plan in omega (arith, p.small, end-is plan at, s.end)
@@ -141,11 +149,13 @@ linked file plan at rows p f c =
 pub entries_back : WrittenIsRead → (file : List ℕ) (plan : Image) (at rows : ℕ) → IsPlan plan at → FitsTypes plan
     → Carries file plan at rows
     → entries_in file (part_of file 103) ≡ plan.entries
-entries_back laws file plan at rows p f c = all_entries file (part_of file 103) plan.entries p.planned.rows (arrayed laws file plan at rows p f c)
+entries_back laws file plan at rows p f c =
+    all_entries file (part_of file 103) plan.entries p.planned.rows (arrayed laws file plan at rows p f c)
 
 pub array_good : WrittenIsRead → (file : List ℕ) (plan : Image) (at rows : ℕ) → IsPlan plan at → FitsTypes plan → Carries file plan at rows
     → bad_array rows file (part_of file 103) ≡ None
-array_good laws file plan at rows p f c = few_rows file (part_of file 103) plan.entries rows c.enough_rows (arrayed laws file plan at rows p f c)
+array_good laws file plan at rows p f c =
+    few_rows file (part_of file 103) plan.entries rows c.enough_rows (arrayed laws file plan at rows p f c)
 
 pub paths_good : WrittenIsRead → (file : List ℕ) (plan : Image) (at rows : ℕ) → IsPlan plan at → FitsTypes plan → Carries file plan at rows
     → first_cut file (part_of file 103) ≡ None

@@ -1,5 +1,6 @@
 -- The entries of a written array: by their indexes, and all of them.
-use Rattle.std.proofs.Common.{◌≡◌, ℕ, zero, suc, ◌+◌, ◌-◌, ◌^◌, ◌<◌, ◌≤◌, Bool, true, false, cond, eqb, List, [], ◌∷◌, map, Option, Some, None, Ok, refl, sym, ap, ◌∙◌, subst, arith, inl, inr}
+use Rattle.std.proofs.Common.{◌≡◌, ℕ, zero, suc, ◌+◌, ◌-◌, ◌^◌, ◌<◌, ◌≤◌, Bool, true, false, cond, eqb, List, [], ◌∷◌, map, Option, Some}
+use Rattle.std.proofs.Common.{None, Ok, refl, sym, ap, ◌∙◌, subst, arith, inl, inr}
 use Rattle.std.specs.List.{AllByRecursion}
 use Rattle.std.specs.Option.{option_and_then, option_map}
 use Rattle.std.proofs.lemmas.Bool.{cases_eq, eq-eqb, eqb-true, ne_eqb}
@@ -101,7 +102,8 @@ pub record HasEntries (file : List ℕ) (part : Span) (entries : Entries) : Type
   pub count : array.count ≡ highest_row entries
   pub each : (index : ℕ) → Reads file part index (element_of array index) (entry_of_index entries index)
 
-pub has_entries : WrittenIsRead → (file : List ℕ) (part : Span) (entries : Entries) → RowsAscend 1 entries → AllByRecursion IsReadable entries
+pub has_entries : WrittenIsRead → (file : List ℕ) (part : Span) (entries : Entries) → RowsAscend 1 entries
+    → AllByRecursion IsReadable entries
     → HoldsElements (bytes_in file part) (highest_row entries) (map element_of_entry entries) → HasEntries file part entries
 has_entries laws file part entries rows readable h = record {
   array = h.array;
@@ -147,7 +149,7 @@ none_before (e ∷ es) least index h low =
     let apart : e.row - 1 ≡ index → ⊥ = λ same. omega (arith, h.0, same) in
     rw (ne_eqb _ _ apart) (none_before es (e.row + 1) index h.1 (omega (arith, h.0)))
 
--- an entry of a later row is behind this index
+-- an entry of a later row is after this index
 other_index : (e : EntryPoint) (es : Entries) (k : ℕ) → (e.row - 1 ≡ k → ⊥) → entry_of_index (e ∷ es) k ≡ entry_of_index es k
 other_index e es k apart = rw (ne_eqb _ _ apart) refl
 
@@ -167,6 +169,7 @@ all_present f (e ∷ es) i (suc n) rows high h =
           rw here (ap (λ (l : Entries). e ∷ l) (all_present f es (i + 1) n later (omega arith) (λ k le. h k (omega arith)
           ∙ other_index e es k (λ at. omega (arith, at, same)))))
       | inr other ↦
-          let nothing : f i ≡ None = h i (omega arith) ∙ none_before (e ∷ es) (i + 2) i (omega (arith, rows.0, other), rows.1) (omega arith) in
+          let nothing : f i ≡ None =
+          h i (omega arith) ∙ none_before (e ∷ es) (i + 2) i (omega (arith, rows.0, other), rows.1) (omega arith) in
           rw nothing (all_present f (e ∷ es) (i + 1) n (omega (arith, rows.0, other), rows.1) (omega arith) (λ k le. h k (omega arith)))
     ]

@@ -1,5 +1,6 @@
 -- The slots that entries name are slots of the written import records.
-use Rattle.std.proofs.Common.{◌≡◌, ℕ, zero, suc, ◌+◌, ◌*◌, ◌/◌, ◌^◌, ◌<◌, ◌≤◌, Bool, true, List, [], ◌∷◌, ◌++◌, length, take, drop, Some, refl, sym, ap, ◌∙◌, subst, append_assoc, arith}
+use Rattle.std.proofs.Common.{◌≡◌, ℕ, zero, suc, ◌+◌, ◌*◌, ◌/◌, ◌^◌, ◌<◌, ◌≤◌, Bool, true, List, [], ◌∷◌, ◌++◌, length, take, drop, Some}
+use Rattle.std.proofs.Common.{refl, sym, ap, ◌∙◌, subst, append_assoc, arith}
 use Rattle.std.specs.Prelude.{flat_map}
 use Rattle.std.specs.List.{AllByRecursion, list_all}
 use Rattle.std.proofs.lemmas.Bool.{lt-ltb}
@@ -30,7 +31,7 @@ pub length-placed : (cells arrays : ℕ) (imports : Imports)
 length-placed cells arrays [] = refl
 length-placed cells arrays (i ∷ imports) = omega (arith, length-placed (cells + i.size) (arrays + 4 * slot_count i) imports)
 
--- a size of so many slots stands at a place of the bytes
+-- a size of so many slots is at a place of the bytes
 pub record HasSize (bytes : List ℕ) (at slot : ℕ) : Type 0 where
   pub size : ℕ
   pub front : List ℕ
@@ -43,7 +44,8 @@ pub record HasSize (bytes : List ℕ) (at slot : ℕ) : Type 0 where
 abbrev pub IsSized : ImportSection → Type 0
 IsSized i = i.size < 2 ^ 32
 
-first_size : (i : ImportSection) (rest : List ℕ) (slot : ℕ) → i.size < 2 ^ 32 → slot < slot_count i → HasSize (import_bytes i ++ rest) 4 slot
+first_size : (i : ImportSection) (rest : List ℕ) (slot : ℕ) → i.size < 2 ^ 32 → slot < slot_count i
+    → HasSize (import_bytes i ++ rest) 4 slot
 first_size i rest slot fits enough = record {
   size = i.size;
   front = little_bytes 4 i.rva;
@@ -68,7 +70,8 @@ behind_front front bytes at slot h = record {
 size_of : (cells arrays : ℕ) (imports : Imports) (section slot : ℕ) → AllByRecursion IsSized imports → Names imports section slot
     → (section < length imports) × HasSize (records cells arrays imports) (20 * section + 4) slot
 size_of cells arrays [] section slot sized names = absurd names
-size_of cells arrays (i ∷ imports) zero slot sized names = (omega arith, first_size (record i { rva = cells; signatures = arrays }) _ slot sized.0 names)
+size_of cells arrays (i ∷ imports) zero slot sized names =
+    (omega arith, first_size (record i { rva = cells; signatures = arrays }) _ slot sized.0 names)
 size_of cells arrays (i ∷ imports) (suc section) slot sized names =
     let others = records (cells + i.size) (arrays + 4 * slot_count i) imports in
     let here = import_bytes (record i { rva = cells; signatures = arrays }) in
@@ -95,7 +98,8 @@ slot_named file part cells arrays imports r sized len inside same names =
     let counted : r.section < part.len / 20 = omega (arith, len, total, h.0) in
     let place : part.start + length s.front ≡ part.start + 20 * r.section + 4 = omega (arith, s.place) in
     let read : field_at 4 file (part.start + 20 * r.section + 4) ≡ Some s.size =
-    ap (field_at 4 file) (sym place) ∙ number_stands 4 s.size file part.start s.front s.behind piece s.bytes_are (inside some) same s.fits in
+    ap (field_at 4 file) (sym place)
+    ∙ number_stands 4 s.size file part.start s.front s.behind piece s.bytes_are (inside some) same s.fits in
     rw (lt-ltb _ _ counted, read, lt-ltb _ _ s.enough) refl
 
 -- ---- an entry

@@ -1,5 +1,6 @@
--- One written entry, read where it stands in the section.
-use Rattle.std.proofs.Common.{◌≡◌, ℕ, ◌+◌, ◌*◌, ◌/◌, ◌%◌, ◌^◌, ◌<◌, List, [], ◌∷◌, ◌++◌, length, take, drop, Some, refl, sym, ap, ◌∙◌, subst, append_assoc, arith}
+-- One written entry, read where it is in the section.
+use Rattle.std.proofs.Common.{◌≡◌, ℕ, ◌+◌, ◌*◌, ◌/◌, ◌%◌, ◌^◌, ◌<◌, List, [], ◌∷◌, ◌++◌, length, take, drop, Some, refl, sym, ap, ◌∙◌}
+use Rattle.std.proofs.Common.{append_assoc, arith}
 use Rattle.std.specs.List.{AllByRecursion}
 use Rattle.std.specs.Option.{option_and_then, option_map}
 use Rattle.std.proofs.lemmas.Bool.{eq-eqb, ne_eqb}
@@ -54,7 +55,7 @@ of_id file part row id behind function list p q = ap (option_map (entry_point ro
 
 -- ---- the list, which the file's end bounds
 
--- what stands at a place of the section stands in the file, with what is behind the section
+-- what is at a place of the section is in the file, with what is after the section
 in_file : (file front piece behind : List ℕ) (start len place : ℕ) → take len (drop start file) ≡ front ++ (piece ++ behind)
     → place ≡ length front
     → drop (start + place) file ≡ piece ++ (behind ++ drop len (drop start file))
@@ -65,7 +66,8 @@ in_file file front piece behind start len place is at =
     ∙ ap (λ (t : List ℕ). front ++ t) (append_assoc piece behind rest) in
     sym (drop-drop place start file) ∙ ap (drop place) whole ∙ drop_at front (piece ++ (behind ++ rest)) place (sym at)
 
-list_read : WrittenIsRead → (file front behind : List ℕ) (start len place : ℕ) (list : List SlotRef) → IsSlotList list → AllByRecursion FitsWords list
+list_read : WrittenIsRead → (file front behind : List ℕ) (start len place : ℕ) (list : List SlotRef) → IsSlotList list
+    → AllByRecursion FitsWords list
     → take len (drop start file) ≡ front ++ (list_bytes list ++ behind) → place ≡ length front → list_at file (start + place) ≡ Some list
 list_read laws file front behind start len place list ascending fit is at =
     let there : drop (start + place) file ≡ list_bytes list ++ (behind ++ drop len (drop start file)) =
@@ -74,16 +76,20 @@ list_read laws file front behind start len place list ascending fit is at =
 
 -- ---- the entry
 
-id_read : WrittenIsRead → (bytes front behind : List ℕ) (id place : ℕ) → bytes ≡ front ++ (short_uint id ++ behind) → place ≡ length front → id < 2 ^ 32
+id_read : WrittenIsRead → (bytes front behind : List ℕ) (id place : ℕ) → bytes ≡ front ++ (short_uint id ++ behind) → place ≡ length front
+    → id < 2 ^ 32
     → uint_at bytes place ≡ Some (id, place + length (short_uint id))
 id_read laws bytes front behind id place is at small =
     rw (is, at) (laws.integers id front behind small)
 
-pub entry_read : WrittenIsRead → (file : List ℕ) (part : Span) (row function place : ℕ) (fixups : List SlotRef) → function < 2 ^ 24 → SlotsAscend fixups
+pub entry_read : WrittenIsRead → (file : List ℕ) (part : Span) (row function place : ℕ) (fixups : List SlotRef) → function < 2 ^ 24
+    → SlotsAscend fixups
     → AllByRecursion FitsWords fixups
-    → StandsAt (bytes_in file part) place (content_of_entry function fixups) → entry_at file part row place ≡ Some (made row function fixups)
+    → StandsAt (bytes_in file part) place (content_of_entry function fixups)
+    → entry_at file part row place ≡ Some (made row function fixups)
 entry_read laws file part row function place [] small ascend fit s =
-    by_id file part row place (2 * function) _ (id_read laws (bytes_in file part) s.front s.behind (2 * function) place s.bytes_are s.place_is (omega arith))
+    by_id file part row place (2 * function) _
+    (id_read laws (bytes_in file part) s.front s.behind (2 * function) place s.bytes_are s.place_is (omega arith))
     ∙ of_id file part row (2 * function) _ function [] (bare_function function) (bare_list file part function _)
 entry_read laws file part row function place (slot ∷ slots) small ascend fit s =
     let list = slot ∷ slots in
@@ -97,4 +103,5 @@ entry_read laws file part row function place (slot ∷ slots) small ascend fit s
     by_id file part row place (4 * function + 1) _ (id_read laws (bytes_in file part) s.front (list_bytes list ++ s.behind)
     (4 * function + 1) place flat s.place_is (omega arith))
     ∙ of_id file part row (4 * function + 1) (place + length id) function list (listed_function function)
-    (own_list file part function (place + length id) ∙ list_read laws file (s.front ++ id) s.behind part.start part.len (place + length id) list ascend fit behind_id next)
+    (own_list file part function (place + length id)
+    ∙ list_read laws file (s.front ++ id) s.behind part.start part.len (place + length id) list ascend fit behind_id next)

@@ -1,21 +1,22 @@
 -- An entry by its head and the list at its place is the entry that is read whole.
-use Rattle.std.proofs.Common.{◌≡◌, ℕ, zero, suc, ◌+◌, ◌*◌, ◌/◌, ◌%◌, ◌==◌, ◌&&◌, ◌<◌, ◌≤◌, Bool, true, false, cond, ltb, List, [], ◌∷◌, Option, Some, None, inl, inr, refl, sym, ap, ◌∙◌, arith}
-use Rattle.std.specs.Option.{option_and_then, option_map, option_map_or, option_or}
-use Rattle.std.specs.List.{list_all, slice_get}
+use Rattle.std.proofs.Common.{◌≡◌, ℕ, zero, suc, ◌+◌, ◌*◌, ◌/◌, ◌%◌, ◌==◌, ◌&&◌, ◌<◌, ◌≤◌, Bool, true, false, cond, ltb, List, [], ◌∷◌}
+use Rattle.std.proofs.Common.{Option, Some, None, inl, inr, refl, ap, ◌∙◌}
+use Rattle.std.specs.Option.{option_and_then, option_map, option_map_or}
+use Rattle.std.specs.List.{list_all}
 use Rattle.std.proofs.lemmas.Bool.{cases_lt, le-ltb, lt-ltb}
 use Rattle.rtr_bytes.specs.declared.fault.Span.{Span}
-use Rattle.rtr_bytes.specs.Field.{u32_of}
 use Rattle.native_format.specs.declared.nibbles.SlotRef.{SlotRef}
 use Rattle.native_format.specs.Nibbles.{list_at}
 use Rattle.native_format.specs.Sparse.{Array, element_of}
 use Rattle.native_format.specs.Uint.{uint_at}
 use Rattle.rtr_sections.specs.declared.entries.EntryHead.{EntryHead}
 use Rattle.rtr_sections.specs.declared.entries.EntryPoint.{EntryPoint}
-use Rattle.rtr_sections.specs.declared.imports.ImportSection.{ImportSection}
 use Rattle.rtr_sections.specs.Numbered.{first_bad}
-use Rattle.rtr_sections.specs.Imports.{import_at, import_count, imports_in, slot_count}
-use Rattle.rtr_sections.specs.Entries.{first_unlinked_of as unlinked_by_row, array_in, bytes_in, content_place, entry_at, entry_of_id, entry_point, first_unlinked, fixups_of_id, function_of_id, is_linked, list_place, names_slot, unlinked_at, unlinked_place}
-use Rattle.rtr_sections.specs.EntryHeads.{first_unlinked_of as unlinked_by_head, entry_of_head, exists_in, first_unlinked_in, head, head_at, head_of_id, is_linked_head, links_at, unlinked_head, unlinked_index}
+use Rattle.rtr_sections.specs.Imports.{import_at, import_count, imports_in}
+use Rattle.rtr_sections.specs.Entries.{first_unlinked_of as unlinked_by_row, array_in, bytes_in, content_place, entry_at, entry_of_id}
+use Rattle.rtr_sections.specs.Entries.{first_unlinked, function_of_id, is_linked, list_place, names_slot, unlinked_at, unlinked_place}
+use Rattle.rtr_sections.specs.EntryHeads.{first_unlinked_of as unlinked_by_head, entry_of_head, exists_in, first_unlinked_in, head, head_at}
+use Rattle.rtr_sections.specs.EntryHeads.{head_of_id, is_linked_head, links_at, unlinked_head, unlinked_index}
 use Rattle.rtr_sections.proofs.Listed.{record_past, record_there}
 
 -- ---- the whole entry

@@ -1,5 +1,6 @@
 -- The functions of a written image, read back.
-use Rattle.std.proofs.Common.{◌≡◌, ℕ, ◌+◌, ◌-◌, ◌*◌, ◌%◌, ◌^◌, ◌<◌, ◌≤◌, Bool, true, List, [], ◌∷◌, ◌++◌, All, Option, Some, None, length, drop, refl, sym, ap, ◌∙◌, arith}
+use Rattle.std.proofs.Common.{◌≡◌, ℕ, ◌+◌, ◌-◌, ◌*◌, ◌%◌, ◌^◌, ◌<◌, ◌≤◌, Bool, true, List, [], ◌∷◌, ◌++◌, All, Option, Some, None, length}
+use Rattle.std.proofs.Common.{drop, refl, sym, ap, ◌∙◌, arith}
 use Rattle.std.specs.Prelude.{◌==◌, if◌then◌else◌, is_some, IsSome, nat_le, nat_lt, unwrap_or}
 use Rattle.std.specs.Option.{option_map_or}
 use Rattle.std.proofs.lemmas.Bool.{and_from, eq-eqb, le-leb, lt-ltb, le-ltb}
@@ -11,13 +12,15 @@ use Rattle.rtr_bytes.specs.Checks.{first_record, records}
 use Rattle.pe_image.specs.Headers.{place_of}
 use Rattle.rtr_sections.specs.declared.functions.Function.{Function}
 use Rattle.rtr_sections.specs.declared.image.Image.{Image}
-use Rattle.rtr_sections.specs.Functions.{bad_function, end_before, end_of, function_at, function_count, function_holds, functions_in, holds_behind, is_function, unwind_place}
+use Rattle.rtr_sections.specs.Functions.{bad_function, end_before, end_of, function_at, function_count, function_holds, functions_in}
+use Rattle.rtr_sections.specs.Functions.{holds_behind, is_function, unwind_place}
 use Rattle.rtr_sections.specs.Header.{part_of}
 use Rattle.rtr_sections.specs.Parts.{function_bytes, parts_of, part_bytes, unwind_bytes}
 use Rattle.rtr_sections.specs.Plan.{AreInOrder, IsPlan}
 use Rattle.rtr_sections.specs.Written.{Carries}
 use Rattle.rtr_sections.proofs.Types.{FitsTypes}
-use Rattle.rtr_sections.proofs.Stands.{IsFound, Stands, are_parts, begins_with, end-is, found_whole, length-function_bytes, number_behind, stands_behind, stands_front, unwinds_stand}
+use Rattle.rtr_sections.proofs.Stands.{IsFound, Stands, are_parts, begins_with, end-is, found_whole, length-function_bytes, number_behind}
+use Rattle.rtr_sections.proofs.Stands.{stands_behind, stands_front, unwinds_stand}
 use Rattle.rtr_sections.proofs.HeaderBack.{functions_part}
 
 -- the entry of a function at a place, and its unwind word
@@ -37,7 +40,7 @@ function begin len = record { begin = begin; length = len }
 abbrev Fits : Function → Type 0
 Fits f = (f.begin < 2 ^ 32) × (f.length < 2 ^ 32)
 
--- a word that stands at an RVA
+-- a word that is at an RVA
 word_found : (file : List ℕ) (rva x : ℕ) → x < 2 ^ 32 → Stands file rva (little_bytes 4 x)
     → (word : ℕ) × (place_of file rva 4 ≡ Some word) × (u32_of file word ≡ x)
 word_found file rva x fits stands =
@@ -59,8 +62,10 @@ entries_found (f ∷ fs) file rest place rva long whole unwinds low fits =
     let fit : Fits f = All-head Fits f fs fits in
     let others = function_bytes (rva + 4) fs ++ rest in
     let begin : field_at 4 file place ≡ Some f.begin =
-    ap (λ (t : ℕ). field_at 4 file t) (sym here) ∙ number_behind 4 f.begin file place [] (little_bytes 4 rva ++ others) whole (omega arith) fit.0 in
-    let unwind : field_at 4 file (place + 4) ≡ Some rva = number_behind 4 rva file place (little_bytes 4 f.begin) others whole (omega arith) (omega arith) in
+    ap (λ (t : ℕ). field_at 4 file t) (sym here)
+    ∙ number_behind 4 f.begin file place [] (little_bytes 4 rva ++ others) whole (omega arith) fit.0 in
+    let unwind : field_at 4 file (place + 4) ≡ Some rva =
+    number_behind 4 rva file place (little_bytes 4 f.begin) others whole (omega arith) (omega arith) in
     let word = word_found file rva f.length fit.1 (stands_front file rva (little_bytes 4 f.length) (unwind_bytes fs) unwinds) in
     let named : unwind_place file place ≡ Some word.0 = ap (λ (t : Option ℕ). place_of file (unwrap_or t 0) 4) unwind ∙ word.1 in
     let behind : drop (place + 8) file ≡ others = sym (drop-drop 8 place file) ∙ ap (λ (t : List ℕ). drop 8 t) whole in (
@@ -83,7 +88,7 @@ functions_found (f ∷ fs) file place (h, hs) =
     ap (λ (t : Function). t ∷ records (function_at file) (place + 8) 8 (length fs)) (same_function file place f h)
     ∙ ap (λ (t : List Function). f ∷ t) (functions_found fs file (place + 8) hs)
 
--- such an entry holds behind code that ends at or before its begin
+-- such an entry holds after code that ends at or before its begin
 entry_holds : (file : List ℕ) (place low : ℕ) (f : Function) → EntryStands file place f → low ≤ f.begin → f.begin % 4 ≡ 0 → f.length % 4 ≡ 0
     → is_some (place_of file f.begin f.length) ≡ true
     → holds_behind file low place ≡ true
@@ -96,7 +101,7 @@ entry_holds file place low f h above b l placed =
     and_from (is_some (unwind_place file place)) (is_function file low (function_at file place)) (ap (λ (t : Option ℕ). is_some t) h.unwind)
     (ap (λ (t : Function). is_function file low t) (same_function file place f h) ∙ good)
 
--- and the entry after it begins behind its end
+-- and the entry after it begins after its end
 end_after : (file : List ℕ) (start place : ℕ) (f : Function) → EntryStands file place f → start ≤ place
     → end_before file start (place + 8) ≡ end_of f
 unfolding end_before
@@ -115,7 +120,8 @@ all_hold (f ∷ fs) file start place low (h, hs) (above, b, l, order) placed beh
     let first : function_holds file start place ≡ true =
     ap (λ (t : ℕ). holds_behind file t place) ends ∙ entry_holds file place low f h above b l (All-head Placed f fs placed) in
     ap (λ (t : Bool). if t then first_record (function_holds file start) (place + 8) 8 (length fs) else Some place) first
-    ∙ all_hold fs file start (place + 8) (end_of f) hs order (All-tail Placed f fs placed) (omega arith) (end_after file start place f h behind)
+    ∙ all_hold fs file start (place + 8) (end_of f) hs order (All-tail Placed f fs placed) (omega arith)
+    (end_after file start place f h behind)
 
 -- the part's entries are those of the plan's functions
 plan_entries : (file : List ℕ) (plan : Image) (at rows : ℕ) → IsPlan plan at → FitsTypes plan → Carries file plan at rows
@@ -129,7 +135,8 @@ plan_entries file plan at rows p f c =
     let parts = are_parts plan in
     let small : length (part_bytes plan at) < 2 ^ 24 = p.small in
     let low : at ≤ 2 ^ 31 = p.low in
-    let long : 0 < length plan.functions → place + 8 * length plan.functions ≤ length file = λ some. omega (arith, part.inside (omega arith)) in
+    let long : 0 < length plan.functions → place + 8 * length plan.functions ≤ length file =
+    λ some. omega (arith, part.inside (omega arith)) in
     entries_found plan.functions file (drop (length piece) (drop place file)) place unwinds long (begins_with file place piece part.bytes)
     (unwinds_stand file plan at rows c) (omega (arith, end-is plan at)) f.functions
 
@@ -159,4 +166,5 @@ functions_good file plan at rows p f c =
     (le-ltb s.start s.start (omega arith)) in
     ap (λ (b : Bool). if b then first_record (function_holds file s.start) s.start 8 (function_count s) else Some s.start) whole
     ∙ ap (λ (t : ℕ). first_record (function_holds file s.start) s.start 8 t) (functions_counted file plan at rows p f c)
-    ∙ all_hold plan.functions file s.start s.start 0 (plan_entries file plan at rows p f c) p.planned.functions c.code (omega arith) none_before
+    ∙ all_hold plan.functions file s.start s.start 0 (plan_entries file plan at rows p f c) p.planned.functions c.code (omega arith)
+    none_before

@@ -1,5 +1,6 @@
 -- The header of a written image and its section records, read back.
-use Rattle.std.proofs.Common.{◌≡◌, ℕ, ◌+◌, ◌-◌, ◌*◌, ◌%◌, ◌^◌, ◌<◌, ◌≤◌, Bool, true, false, ◌&&◌, ◌||◌, List, [], ◌∷◌, ◌++◌, All, Option, Some, None, length, take, drop, refl, sym, ap, subst, ◌∙◌, inl, inr, arith}
+use Rattle.std.proofs.Common.{◌≡◌, ℕ, ◌+◌, ◌-◌, ◌*◌, ◌%◌, ◌^◌, ◌<◌, ◌≤◌, Bool, true, false, ◌&&◌, ◌||◌, List, [], ◌∷◌, ◌++◌, All, Option}
+use Rattle.std.proofs.Common.{Some, None, length, take, drop, refl, sym, ap, subst, ◌∙◌, inl, inr, arith}
 use Rattle.std.specs.Prelude.{◌==◌, flat_map, find, if◌then◌else◌, is_some, nat_eq, not, unwrap_or}
 use Rattle.std.specs.Cmp.Lexicographic.{pointwise}
 use Rattle.std.specs.List.{list_any, starts_with}
@@ -12,16 +13,21 @@ use Rattle.rtr_bytes.specs.declared.fault.Span.{Span}
 use Rattle.rtr_bytes.specs.Field.{field_at, u16_of, u32_of}
 use Rattle.rtr_bytes.specs.Checks.{first_fault, first_record, holds_or, records}
 use Rattle.pe_image.specs.Headers.{cli_at, machine_of, native_of, place_of}
-use Rattle.pe_image.proofs.ReadBack.{pass-by}
+use Rattle.rtr_sections.proofs.CheckLists.{pass-by}
 use Rattle.rtr_sections.specs.declared.header.RtrSection.{RtrSection}
 use Rattle.rtr_sections.specs.declared.header.RtrHeader.{RtrHeader}
 use Rattle.rtr_sections.specs.declared.image.Image.{Image}
-use Rattle.rtr_sections.specs.Header.{ascends, header_checks, identifier, if_native, imports_are_whole, is_identifier, is_own, is_own_kind, native_at, native_rva, part_at, part_of, range_is_placed, record_count, records_at, records_place, rtr_header_of, rtr_section_at, rtr_sections_of}
-use Rattle.rtr_sections.specs.Parts.{entry_bytes, function_bytes, header_bytes, import_bytes, parts_of, part_bytes, section, section_bytes, thunks_of, written_imports, written_sections}
+use Rattle.rtr_sections.specs.Header.{ascends, header_checks, identifier, if_native, imports_are_whole, is_identifier, is_own, is_own_kind}
+use Rattle.rtr_sections.specs.Header.{native_at, native_rva, part_at, part_of, range_is_placed, record_count, records_at, records_place}
+use Rattle.rtr_sections.specs.Header.{rtr_header_of, rtr_section_at, rtr_sections_of}
+use Rattle.rtr_sections.specs.Parts.{entry_bytes, function_bytes, header_bytes, import_bytes, parts_of, part_bytes, section, section_bytes}
+use Rattle.rtr_sections.specs.Parts.{thunks_of, written_imports, written_sections}
 use Rattle.rtr_sections.specs.Plan.{IsPlan}
 use Rattle.rtr_sections.specs.Written.{Carries, IsPlaced, back_image}
 use Rattle.rtr_sections.proofs.Types.{FitsTypes}
-use Rattle.rtr_sections.proofs.Stands.{IsFound, IsPart, Stands, are_parts, begins_with, end-is, entries_stand, found_whole, functions_stand, header_stands, identifier_stands, imports_stand, length-entries, length-functions, length-imports, number_behind, stands_behind, stands_front}
+use Rattle.rtr_sections.proofs.Stands.{IsFound, IsPart, Stands, are_parts, begins_with, end-is, entries_stand, found_whole, functions_stand}
+use Rattle.rtr_sections.proofs.Stands.{header_stands, identifier_stands, imports_stand, length-entries, length-functions, length-imports}
+use Rattle.rtr_sections.proofs.Stands.{number_behind, stands_behind, stands_front}
 
 -- ---- the header's first 16 bytes
 
@@ -50,13 +56,16 @@ has_head file rva flags fits stands =
     let here : p + 0 ≡ p = omega arith in
     let signature = number_behind 4 0x00525452 file p []
     (little_bytes 2 5 ++ (little_bytes 2 0 ++ (little_bytes 4 flags ++ (little_bytes 4 5 ++ rest)))) whole (omega arith) (omega arith) in
-    let major = number_behind 2 5 file p (little_bytes 4 0x00525452) (little_bytes 2 0 ++ (little_bytes 4 flags ++ (little_bytes 4 5 ++ rest))) whole
+    let major =
+    number_behind 2 5 file p (little_bytes 4 0x00525452) (little_bytes 2 0 ++ (little_bytes 4 flags ++ (little_bytes 4 5 ++ rest))) whole
     (omega arith) (omega arith) in
-    let minor = number_behind 2 0 file p (little_bytes 4 0x00525452 ++ little_bytes 2 5) (little_bytes 4 flags ++ (little_bytes 4 5 ++ rest)) whole
+    let minor =
+    number_behind 2 0 file p (little_bytes 4 0x00525452 ++ little_bytes 2 5) (little_bytes 4 flags ++ (little_bytes 4 5 ++ rest)) whole
     (omega arith) (omega arith) in
     let flags_are = number_behind 4 flags file p (little_bytes 4 0x00525452 ++ (little_bytes 2 5 ++ little_bytes 2 0))
     (little_bytes 4 5 ++ rest) whole (omega arith) fits in
-    let count = number_behind 4 5 file p (little_bytes 4 0x00525452 ++ (little_bytes 2 5 ++ (little_bytes 2 0 ++ little_bytes 4 flags))) rest whole
+    let count =
+    number_behind 4 5 file p (little_bytes 4 0x00525452 ++ (little_bytes 2 5 ++ (little_bytes 2 0 ++ little_bytes 4 flags))) rest whole
     (omega arith) (omega arith) in
     record {
       place = p;
@@ -83,7 +92,8 @@ section_found : (file rest : List ℕ) (place : ℕ) (s : RtrSection) → Sectio
     → drop place file ≡ section_bytes s ++ rest → rtr_section_at file place ≡ s
 section_found file rest place s fits inside whole =
     let here : place + 0 ≡ place = omega arith in
-    let kind = number_behind 4 s.kind file place [] (little_bytes 4 s.rva ++ (little_bytes 4 s.size ++ rest)) whole (omega arith) fits.kind in
+    let kind =
+    number_behind 4 s.kind file place [] (little_bytes 4 s.rva ++ (little_bytes 4 s.size ++ rest)) whole (omega arith) fits.kind in
     let rva = number_behind 4 s.rva file place (little_bytes 4 s.kind) (little_bytes 4 s.size ++ rest) whole (omega arith) fits.rva in
     let size = number_behind 4 s.size file place (little_bytes 4 s.kind ++ little_bytes 4 s.rva) rest whole (omega arith) fits.size in
     ap (λ (t : ℕ). section (u32_of file t) (u32_of file (place + 4)) (u32_of file (place + 8))) (sym here)
@@ -138,7 +148,8 @@ ascending file (s ∷ ss) place kind e before (h, hs) =
     let good : ascends file place ≡ true = lt-ltb (u32_of file (place - 12)) (u32_of file place) (omega (arith, own, before)) in
     let back : place + 12 - 12 ≡ place = omega arith in
     ap (λ (b : Bool). if b then first_record (ascends file) (place + 12) 12 (length ss) else Some place) good
-    ∙ ascending file ss (place + 12) s.kind (rest_of (rtr_section_at file place) s others ss e) (ap (λ (t : ℕ). u32_of file t) back ∙ own) hs
+    ∙ ascending file ss (place + 12) s.kind (rest_of (rtr_section_at file place) s others ss e) (ap (λ (t : ℕ). u32_of file t) back ∙ own)
+    hs
 
 all_ascend : (file : List ℕ) (ss : List RtrSection) (place : ℕ) → records (rtr_section_at file) place 12 (length ss) ≡ ss → TypesAscend ss
     → first_record (ascends file) (place + 12) 12 (length ss - 1) ≡ None
@@ -149,7 +160,8 @@ all_ascend file (s ∷ ss) place e all =
     let back : place + 12 - 12 ≡ place = omega arith in
     let own : u32_of file place ≡ s.kind = ap (λ (t : RtrSection). t.kind) (first_of (rtr_section_at file place) s others ss e) in
     ap (λ (t : ℕ). first_record (ascends file) (place + 12) 12 t) one_less
-    ∙ ascending file ss (place + 12) s.kind (rest_of (rtr_section_at file place) s others ss e) (ap (λ (t : ℕ). u32_of file t) back ∙ own) all
+    ∙ ascending file ss (place + 12) s.kind (rest_of (rtr_section_at file place) s others ss e) (ap (λ (t : ℕ). u32_of file t) back ∙ own)
+    all
 
 -- a part of whole import records
 abbrev IsWhole : RtrSection → Type 0
@@ -161,7 +173,8 @@ placed_or file s h =
     let own = not (is_own_kind s.kind) in
     elim (cases_lt 0 s.size) [
       | inl some ↦ or_right (own || s.size == 0) (is_some (place_of file s.rva s.size)) (h some)
-      | inr none ↦ or_left (own || s.size == 0) (is_some (place_of file s.rva s.size)) (or_right own (s.size == 0) (eq-eqb s.size 0 (omega arith)))
+      | inr none ↦
+          or_left (own || s.size == 0) (is_some (place_of file s.rva s.size)) (or_right own (s.size == 0) (eq-eqb s.size 0 (omega arith)))
     ]
 
 whole_or : (s : RtrSection) → IsWhole s → (not (s.kind == 101) || s.size % 20 == 0) ≡ true
@@ -204,9 +217,11 @@ has_header file rva flags sections native five fits flags_fit stands =
     let table = flat_map section_bytes sections in
     let long = length-records sections in
     let head : HasHead file rva flags = has_head file rva flags flags_fit (stands_front file rva (head_bytes flags) table stands) in
-    let behind : IsFound file (rva + 16) table = found_whole file (rva + 16) table (stands_behind file rva (head_bytes flags) table stands) (omega arith) in
+    let behind : IsFound file (rva + 16) table =
+    found_whole file (rva + 16) table (stands_behind file rva (head_bytes flags) table stands) (omega arith) in
     let native_size = u32_of file (cli_at file + 68) in
-    let is : native_rva file ≡ rva = named (native_rva file == 0 && native_size == 0) (native_rva file) native_size (record { start = rva; len = 76 }) native in
+    let is : native_rva file ≡ rva =
+    named (native_rva file == 0 && native_size == 0) (native_rva file) native_size (record { start = rva; len = 76 }) native in
     let at : native_at file ≡ head.place = ap (λ (t : ℕ). unwrap_or (place_of file t 16) 0) is
     ∙ number_of (place_of file rva 16) head.place head.found in
     let five_records : record_count file ≡ 5 = ap (λ (t : ℕ). u32_of file (t + 12)) at ∙ head.count in
@@ -222,7 +237,8 @@ has_header file rva flags sections native five fits flags_fit stands =
       flags_are = ap (λ (t : ℕ). u32_of file (t + 8)) at ∙ head.flags_are;
       count = five_records ∙ sym five;
       records_found = ap (λ (t : Option ℕ). is_some t) records_are_at;
-      records_are = ap (λ (t : ℕ). records (rtr_section_at file) t 12 (length sections)) (number_of (records_place file) behind.place records_are_at)
+      records_are =
+          ap (λ (t : ℕ). records (rtr_section_at file) t 12 (length sections)) (number_of (records_place file) behind.place records_are_at)
           ∙ sections_found sections file (drop (length table) (drop behind.place file)) behind.place fits (omega (arith, behind.inside))
           (begins_with file behind.place table behind.bytes);
     }
@@ -255,7 +271,8 @@ header_good file flags sections h ascend placed whole =
     (λ place e. placed_or file (rtr_section_at file place) e) sections at h.records_are placed in
     let sizes : first_record (imports_are_whole file) at 12 n ≡ None =
     ap (λ (t : ℕ). first_record (imports_are_whole file) at 12 t) h.count
-    ∙ none_fails (rtr_section_at file) (imports_are_whole file) IsWhole (λ place e. whole_or (rtr_section_at file place) e) sections at h.records_are whole in
+    ∙ none_fails (rtr_section_at file) (imports_are_whole file) IsWhole (λ place e. whole_or (rtr_section_at file place) e) sections at
+    h.records_are whole in
     pass-by header_checks [] file (
       native_passes file _ (ap (λ (b : Bool). holds_or b (cli_at file + 64)) h.found),
       (
@@ -321,7 +338,7 @@ imports_whole plan at =
       ((λ is. omega arith), ((λ is. absurd (omega arith)), ((λ is. absurd (omega arith)), ((λ is. absurd (omega arith)), tt)))),
     )
 
--- a part's range is where its bytes stand
+-- a part's range is where its bytes are
 part_placed : (file : List ℕ) (rva size : ℕ) (piece : List ℕ) → Stands file rva piece → size ≡ length piece → 0 < size
     → is_some (place_of file rva size) ≡ true
 part_placed file rva size piece stands is some =
@@ -392,7 +409,8 @@ one_identified : (file : List ℕ) (plan : Image) (at : ℕ) → Stands file (at
     → list_any (is_identifier file) (written_sections plan at) ≡ true
 unfolding written_sections
 one_identified file plan at stands =
-    or_left (is_identifier file (section 100 (at + (parts_of plan).identifier) 14)) false (identified file (at + (parts_of plan).identifier) stands)
+    or_left (is_identifier file (section 100 (at + (parts_of plan).identifier) 14)) false
+    (identified file (at + (parts_of plan).identifier) stands)
 
 pub own_back : (file : List ℕ) (plan : Image) (at rows : ℕ) → IsPlan plan at → FitsTypes plan → Carries file plan at rows
     → is_own file ≡ true
@@ -425,11 +443,21 @@ span_of file kind rva size piece stands is = elim (cases_lt 0 (length piece)) [
       let found : IsFound file rva piece = found_whole file rva piece stands some in
       let start : unwrap_or (place_of file rva size) 0 ≡ found.place = ap (λ (t : ℕ). unwrap_or (place_of file rva t) 0) is
       ∙ number_of (place_of file rva (length piece)) found.place found.found in
-      record { len = is; inside = λ h. omega (arith, start, found.inside); bytes = ap (λ (t : ℕ). take (length piece) (drop t file)) start ∙ found.bytes }
+      record {
+        len = is;
+        inside = λ h. omega (arith, start, found.inside);
+        bytes = ap (λ (t : ℕ). take (length piece) (drop t file)) start
+            ∙ found.bytes;
+      }
   | inr none ↦
       let empty : piece ≡ [] = nil_from_length piece (omega arith) in
       let zero_long : length piece ≡ 0 = omega arith in
-      record { len = is; inside = λ h. absurd (omega arith); bytes = ap (λ (t : ℕ). take t (drop (unwrap_or (place_of file rva size) 0) file)) zero_long ∙ sym empty }
+      record {
+        len = is;
+        inside = λ h. absurd (omega arith);
+        bytes = ap
+            (λ (t : ℕ). take t (drop (unwrap_or (place_of file rva size) 0) file)) zero_long ∙ sym empty;
+      }
 ]
 
 is_part : (file : List ℕ) (kind : ℕ) (s : RtrSection) (sections : List RtrSection) (piece : List ℕ) → rtr_sections_of file ≡ sections
@@ -462,7 +490,8 @@ functions_part file plan at rows p f c =
     let size = s.unwinds - s.functions in
     is_part file 102 (section 102 (at + s.functions) size) (written_sections plan at) piece
     (sections_back file plan.header.flags (written_sections plan at) (plan_header file plan at rows p f c)) refl
-    (span_of file 102 (at + s.functions) size piece (functions_stand file plan at rows c) (omega (arith, length-functions plan (at + s.unwinds))))
+    (span_of file 102 (at + s.functions) size piece (functions_stand file plan at rows c)
+    (omega (arith, length-functions plan (at + s.unwinds))))
 
 pub entries_part : (file : List ℕ) (plan : Image) (at rows : ℕ) → IsPlan plan at → FitsTypes plan → Carries file plan at rows
     → IsPart file 103 (entry_bytes plan.entries)

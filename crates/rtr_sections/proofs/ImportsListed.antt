@@ -5,7 +5,7 @@ use Rattle.rtr_bytes.specs.Checks.{records}
 use Rattle.rtr_sections.specs.declared.imports.ImportSection.{ImportSection}
 use Rattle.rtr_sections.specs.Listed.{first_failing, first_overlap}
 use Rattle.rtr_sections.specs.Imports.{follows, foreign_import, import_at, import_count, imports_in, is_own_import, out_of_order}
-use Rattle.rtr_sections.proofs.Listed.{Compares, failing_is, overlap_is, records-length}
+use Rattle.rtr_sections.proofs.Listed.{failing_is, overlap_is, records-length}
 
 pub forms_are : (bytes : List ℕ) (part : Span)
     → foreign_import bytes part ≡ first_failing (is_own_import bytes) part.start 20 (imports_in bytes part)

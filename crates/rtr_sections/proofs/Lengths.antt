@@ -1,15 +1,14 @@
 -- How long a plan's part is.
-use Rattle.std.proofs.Common.{◌≡◌, ℕ, suc, zero, ◌+◌, ◌-◌, ◌*◌, ◌^◌, ◌<◌, ◌≤◌, min, List, [], ◌∷◌, ◌++◌, length, map, get_or, take, drop, refl, sym, ap, ◌∙◌, arith}
+use Rattle.std.proofs.Common.{◌≡◌, ℕ, suc, zero, ◌+◌, ◌-◌, ◌*◌, ◌^◌, ◌<◌, ◌≤◌, List, [], ◌∷◌, ◌++◌, length, map, get_or, take, drop, refl}
+use Rattle.std.proofs.Common.{sym, ap, ◌∙◌, arith}
 use Rattle.std.proofs.lemmas.List.{length-append, map-append, take_more, drop_more}
 use Rattle.native_format.specs.declared.nibbles.SlotRef.{SlotRef}
 use Rattle.native_format.specs.Nibbles.{list_bytes}
 use Rattle.native_format.specs.SparseLengths.{Lengths, capped, length_of, lengths_of, sparse_len}
 use Rattle.native_format.specs.SparseBytes.{sparse_bytes}
 use Rattle.native_format.specs.Uint.{short_uint}
-use Rattle.fixup_sigs.specs.Shortest.{fixup_bytes}
 use Rattle.rtr_sections.specs.declared.entries.EntryPoint.{EntryPoint}
 use Rattle.rtr_sections.specs.declared.image.Image.{Image}
-use Rattle.rtr_sections.specs.declared.slots.Slot.{Slot}
 use Rattle.rtr_sections.specs.Parts.{content_of_entry, element_of_entry, entry_bytes, highest_row, part_bytes, parts_of, signature_bytes_of}
 use Rattle.rtr_sections.specs.Plan.{IsPlan, IsWellPlanned, RowsAscend}
 use Rattle.rtr_sections.proofs.Stands.{end-is}
@@ -35,7 +34,8 @@ pub lengths_more : (entries : List EntryPoint) (i : ℕ) (d e : EntryPoint) → 
     → lengths (take i entries) ++ (e.row - 1, length (content_of_entry e.function e.fixups)) ∷ [] ≡ lengths (take (i + 1) entries)
 lengths_more entries i d e lt is =
     let one : List EntryPoint = e ∷ [] in
-    let next : take (i + 1) entries ≡ take i entries ++ one = take_more entries i d lt ∙ ap (λ (x : EntryPoint). take i entries ++ x ∷ []) (sym is) in
+    let next : take (i + 1) entries ≡ take i entries ++ one =
+    take_more entries i d lt ∙ ap (λ (x : EntryPoint). take i entries ++ x ∷ []) (sym is) in
     sym (
     ap lengths next ∙ ap lengths_of (map-append element_of_entry (take i entries) one)
     ∙ map-append length_of (map element_of_entry (take i entries)) (map element_of_entry one)
@@ -46,7 +46,8 @@ pub row_next : (entries : List EntryPoint) (least i : ℕ) (d e : EntryPoint) �
     → RowsAscend least (drop i entries)
     → (least ≤ e.row) × RowsAscend (e.row + 1) (drop (i + 1) entries)
 row_next entries least i d e lt is h =
-    let next : drop i entries ≡ e ∷ drop (i + 1) entries = drop_more entries i d lt ∙ ap (λ (x : EntryPoint). x ∷ drop (i + 1) entries) (sym is) in
+    let next : drop i entries ≡ e ∷ drop (i + 1) entries =
+    drop_more entries i d lt ∙ ap (λ (x : EntryPoint). x ∷ drop (i + 1) entries) (sym is) in
     rw next at h
 
 pub row_within : (entries : List EntryPoint) (i : ℕ) (d : EntryPoint) → i < length entries → (get_or entries i d).row ≤ highest_row entries
@@ -64,7 +65,8 @@ entries_len_is entries law = sym law
 
 pub part_len : (plan : Image) (at : ℕ)
     → length (part_bytes plan at)
-    ≡ 90 + 12 * length plan.slots + 20 * length plan.imports + 12 * length plan.functions + length (signature_bytes_of plan.slots) + length (entry_bytes plan.entries)
+    ≡ 90 + 12 * length plan.slots + 20 * length plan.imports + 12 * length plan.functions + length (signature_bytes_of plan.slots) + length
+    (entry_bytes plan.entries)
 unfolding parts_of
 part_len plan at = omega (arith, end-is plan at)
 

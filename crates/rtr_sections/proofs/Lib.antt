@@ -1,3 +1,5 @@
+pub mod ByPlace
+pub mod CheckLists
 pub mod Placed
 pub mod NativeLemmas
 pub mod Numbered
@@ -24,6 +26,7 @@ pub mod EntriesLinked
 pub mod EntriesBack
 pub mod Back
 pub mod Lengths
+pub mod Bounded
 pub mod Carried
 pub mod Spellable
 pub mod ImageRead

@@ -1,5 +1,6 @@
--- One step over records by their numbers, of which i are behind.
-use Rattle.std.proofs.Common.{◌≡◌, ℕ, suc, ◌+◌, ◌-◌, ◌<◌, ◌≤◌, List, [], ◌∷◌, ◌++◌, Option, Some, None, refl, append_assoc, append-nil, arith}
+-- One step over records by their numbers, of which i are done.
+use Rattle.std.proofs.Common.{◌≡◌, ℕ, suc, ◌+◌, ◌-◌, ◌<◌, ◌≤◌, List, [], ◌∷◌, ◌++◌, Option, Some, None, refl, append_assoc, append-nil}
+use Rattle.std.proofs.Common.{arith}
 use Rattle.rtr_sections.specs.Numbered.{present, first_bad}
 
 pub first_bad-step : (f : ℕ → Option ℕ) (n i : ℕ) → i < n → f i ≡ None → first_bad f i (n - i) ≡ first_bad f (i + 1) (n - (i + 1))

@@ -1,7 +1,6 @@
 -- The first fault of an image of this compiler after its import records' cells, by the answers of its checks.
-use Rattle.std.proofs.Common.{◌≡◌, ℕ, true, List, Option, Some, None, is_some, refl, ap, ◌∙◌, sym}
+use Rattle.std.proofs.Common.{◌≡◌, ℕ, true, List, Option, Some, None, is_some, refl, ◌∙◌}
 use Rattle.rtr_bytes.specs.declared.fault.Fault.{Fault}
-use Rattle.rtr_bytes.specs.declared.fault.Span.{Span}
 use Rattle.rtr_bytes.specs.declared.fault.ReadRefusal.{ReadRefusal}
 use Rattle.rtr_bytes.specs.declared.fault.ReadRefusal.TheVariants as refusals
 use Rattle.rtr_bytes.specs.Checks.{fault_or, first_fault, RefusedBy}

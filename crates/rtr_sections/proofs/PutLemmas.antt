@@ -10,7 +10,7 @@ use Rattle.rtr_sections.specs.Imports.{slot_count}
 use Rattle.rtr_sections.specs.Parts.{function_bytes, placed_imports}
 use Rattle.rtr_sections.specs.Plan.{HasWrittenForm}
 
--- two pieces one behind the other
+-- two pieces one after the other
 pub two_put : (old one two a b : List ℕ) → one ≡ old ++ a → two ≡ one ++ b → two ≡ old ++ (a ++ b)
 two_put old one two a b e f = f ∙ ap (λ (t : List ℕ). t ++ b) e ∙ append_assoc old a b
 
@@ -39,7 +39,8 @@ pub placed_more : (imports : List ImportSection) (i rva signatures : ℕ) (d : I
     → i < length imports
     → new ≡ old ++ record (get_or imports i d) { rva = rva; signatures = signatures } ∷ []
     → old ++ placed_imports rva signatures (drop i imports) ≡ all
-    → new ++ placed_imports (rva + (get_or imports i d).size) (signatures + 4 * slot_count (get_or imports i d)) (drop (i + 1) imports) ≡ all
+    → new ++ placed_imports (rva + (get_or imports i d).size) (signatures + 4 * slot_count (get_or imports i d))
+    (drop (i + 1) imports) ≡ all
 placed_more imports i rva signatures d old new all h e told =
     rw (e, append_assoc) (rw (drop_more imports i d h) at told)
 
@@ -63,7 +64,9 @@ six_put old p q r s t new a b c d e f h1 h2 h3 h4 h5 h6 =
 pub two_then : (old p q a b c : List ℕ) → p ≡ old ++ a → q ≡ p ++ b → q ++ c ≡ old ++ (a ++ (b ++ c))
 two_then old p q a b c e f = two_put old p (q ++ c) a (b ++ c) e (two_put p q (q ++ c) b c f refl)
 
-pub four_then : (old p q r s a b c d e : List ℕ) → p ≡ old ++ a → q ≡ p ++ b → r ≡ q ++ c → s ≡ r ++ d
-    → s ++ e ≡ old ++ (a ++ (b ++ (c ++ (d ++ e))))
-four_then old p q r s a b c d e h1 h2 h3 h4 =
-    two_put old p (s ++ e) a _ h1 (two_put p q (s ++ e) b _ h2 (two_put q r (s ++ e) c _ h3 (two_put r s (s ++ e) d e h4 refl)))
+pub five_then : (old p q r s t a b c d e f : List ℕ) → p ≡ old ++ a → q ≡ p ++ b → r ≡ q ++ c → s ≡ r ++ d → t ≡ s ++ e
+    → t ++ f ≡ old ++ (a ++ (b ++ (c ++ (d ++ (e ++ f)))))
+five_then old p q r s t a b c d e f h1 h2 h3 h4 h5 =
+    two_put old p (t ++ f) a _ h1
+    (two_put p q (t ++ f) b _ h2
+    (two_put q r (t ++ f) c _ h3 (two_put r s (t ++ f) d _ h4 (two_put s t (t ++ f) e f h5 refl))))

@@ -6,7 +6,8 @@ use Rattle.rtr_bytes.specs.Checks.{fault_or, first_fault, first_record, records}
 use Rattle.pe_image.specs.Headers.{native_of}
 use Rattle.rtr_sections.specs.declared.header.RtrSection.{RtrSection}
 use Rattle.rtr_sections.specs.Listed.{first_failing, first_overlap}
-use Rattle.rtr_sections.specs.Header.{ascends, has_whole_imports, imports_are_whole, range_checks, range_is_placed, record_count, records_at, rtr_section_at, section_is_placed, size_checks, table_checks}
+use Rattle.rtr_sections.specs.Header.{ascends, has_whole_imports, imports_are_whole, range_checks, range_is_placed, record_count}
+use Rattle.rtr_sections.specs.Header.{records_at, rtr_section_at, section_is_placed, size_checks, table_checks}
 use Rattle.rtr_sections.proofs.Listed.{kinds_are, ranges_are, sizes_are}
 use Rattle.rtr_sections.proofs.AllChecks.{no_fault, some_fault}
 

@@ -1,5 +1,6 @@
 -- One slot of an import section, read at its places.
-use Rattle.std.proofs.Common.{◌≡◌, ℕ, ◌+◌, ◌*◌, ◌<◌, ◌≤◌, List, ◌++◌, length, drop, get_or, Option, Some, None, refl, ap, ◌∙◌, sym, append_assoc, append-nil}
+use Rattle.std.proofs.Common.{◌≡◌, ℕ, ◌+◌, ◌*◌, ◌<◌, ◌≤◌, List, ◌++◌, length, drop, get_or, Option, Some, None, refl, ap, ◌∙◌, sym}
+use Rattle.std.proofs.Common.{append_assoc, append-nil}
 use Rattle.std.proofs.lemmas.List.{drop_all, drop_more}
 use Rattle.rtr_bytes.specs.declared.fault.Fault.{Fault}
 use Rattle.rtr_bytes.specs.declared.fault.ReadRefusal.{ReadRefusal}
@@ -7,7 +8,7 @@ use Rattle.rtr_bytes.specs.declared.fault.ReadRefusal.TheVariants as refusals
 use Rattle.rtr_bytes.specs.Checks.{fault_or, RefusedBy}
 use Rattle.rtr_sections.specs.declared.imports.ImportSection.{ImportSection}
 use Rattle.rtr_sections.specs.declared.slots.Slot.{Slot}
-use Rattle.rtr_sections.specs.Imports.{all_slots, signatures_at, cells_at, bad_word, first_bad_of, first_bad_word, slot_at, slot_of, slots_in}
+use Rattle.rtr_sections.specs.Imports.{all_slots, signatures_at, cells_at, first_bad_of, first_bad_word, slot_at, slot_of, slots_in}
 
 -- what was read at two places that are the slot's
 pub slot_read : (bytes : List ℕ) (import : ImportSection) (array cells i : ℕ) (answer : Option Slot) → array ≡ signatures_at bytes import
@@ -16,7 +17,7 @@ slot_read bytes import array cells i answer a b e =
     sym (e ∙ ap (λ (t : ℕ). slot_at bytes (t + 4 * i) (cells + 8 * i)) a
     ∙ ap (λ (t : ℕ). slot_at bytes (signatures_at bytes import + 4 * i) (t + 8 * i)) b)
 
--- ---- one step over the import records, of which i are behind
+-- ---- one step over the import records, of which i are done
 
 pub first_bad_of-step : (bytes : List ℕ) (imports : List ImportSection) (i : ℕ) (d : ImportSection) → i < length imports
     → first_bad_word bytes (get_or imports i d) ≡ None → first_bad_of bytes (drop (i + 1) imports) ≡ first_bad_of bytes (drop i imports)

@@ -1,5 +1,6 @@
 -- The parts of a written image, found in a file that carries it.
-use Rattle.std.proofs.Common.{◌≡◌, ℕ, ◌+◌, ◌*◌, ◌^◌, ◌<◌, ◌≤◌, List, [], ◌∷◌, ◌++◌, length, take, drop, Option, Some, true, refl, sym, ap, subst, ◌∙◌, arith, append_assoc, length-append, length-drop}
+use Rattle.std.proofs.Common.{◌≡◌, ℕ, ◌+◌, ◌*◌, ◌^◌, ◌<◌, ◌≤◌, List, [], ◌∷◌, ◌++◌, length, take, drop, Option, Some, true, refl, sym, ap}
+use Rattle.std.proofs.Common.{subst, ◌∙◌, arith, append_assoc, length-append, length-drop}
 use Rattle.std.specs.Prelude.{flat_map, is_some}
 use Rattle.std.proofs.lemmas.List.{drop-drop, drop_at, take-append-drop}
 use Rattle.std.proofs.Math.Seq.{take-append_seam}
@@ -8,13 +9,15 @@ use Rattle.byteorder.specs.Numbers.{length-bytes_low_first, little_number-reads_
 use Rattle.rtr_bytes.specs.Field.{field_at}
 use Rattle.pe_image.specs.Headers.{place_of, sections_of}
 use Rattle.pe_image.specs.Written.{FindsPart}
-use Rattle.pe_image.proofs.NumbersInARow.{field_at-is}
+use Rattle.rtr_sections.proofs.ByPlace.{field_at-is}
 use Rattle.rtr_sections.specs.declared.functions.Function.{Function}
 use Rattle.rtr_sections.specs.declared.image.Image.{Image}
 use Rattle.rtr_sections.specs.declared.imports.ImportSection.{ImportSection}
 use Rattle.rtr_sections.specs.declared.slots.Slot.{Slot}
 use Rattle.rtr_sections.specs.Header.{identifier, part_of}
-use Rattle.rtr_sections.specs.Parts.{cell_bytes, entry_bytes, function_bytes, header_bytes, import_bytes, part_list, parts_of, placed_imports, part_bytes, signature_bytes_of, signature_rvas, unwind_bytes, words, written_imports, written_sections}
+use Rattle.rtr_sections.specs.Parts.{cell_bytes, entry_bytes, function_bytes, header_bytes, import_bytes, part_list, parts_of}
+use Rattle.rtr_sections.specs.Parts.{placed_imports, part_bytes, signature_bytes_of, signature_rvas, unwind_bytes, words, written_imports}
+use Rattle.rtr_sections.specs.Parts.{written_sections}
 use Rattle.rtr_sections.specs.Imports.{slot_count}
 use Rattle.fixup_sigs.specs.Shortest.{fixup_bytes}
 use Rattle.rtr_sections.specs.Written.{Carries}
@@ -32,17 +35,19 @@ Stands file rva piece = FindsPart (sections_of file) file rva piece
 
 pub found_whole : (file : List ℕ) (rva : ℕ) (piece : List ℕ) → Stands file rva piece → 0 < length piece → IsFound file rva piece
 found_whole file rva piece stands some =
-    let size : length (drop stands.place file) ≡ length piece + length stands.rest = ap (λ (t : List ℕ). length t) stands.stands ∙ length-append piece stands.rest in
+    let size : length (drop stands.place file) ≡ length piece + length stands.rest =
+    ap (λ (t : List ℕ). length t) stands.stands ∙ length-append piece stands.rest in
     let here : rva + 0 ≡ rva = omega arith in
     let there : stands.place + 0 ≡ stands.place = omega arith in
     record {
       place = stands.place;
-      found = ap (λ (t : ℕ). place_of file t (length piece)) (sym here) ∙ stands.found 0 (length piece) some (omega arith) ∙ ap (λ (t : ℕ). Some t) there;
+      found = ap (λ (t : ℕ). place_of file t (length piece)) (sym here) ∙ stands.found 0 (length piece) some (omega arith)
+          ∙ ap (λ (t : ℕ). Some t) there;
       inside = omega (arith, size, length-drop stands.place file);
       bytes = ap (λ (t : List ℕ). take (length piece) t) stands.stands ∙ take-append_seam piece stands.rest;
     }
 
--- what is in front of other bytes
+-- what is before other bytes
 pub stands_front : (file : List ℕ) (rva : ℕ) (piece behind : List ℕ) → Stands file rva (piece ++ behind) → Stands file rva piece
 stands_front file rva piece behind stands = record {
   place = stands.place;
@@ -51,7 +56,7 @@ stands_front file rva piece behind stands = record {
   found = λ start len above inside. stands.found start len above (omega (arith, length-append piece behind));
 }
 
--- what is behind other bytes
+-- what is after other bytes
 pub stands_behind : (file : List ℕ) (rva : ℕ) (front piece : List ℕ) → Stands file rva (front ++ piece)
     → Stands file (rva + length front) piece
 stands_behind file rva front piece stands =
@@ -59,14 +64,16 @@ stands_behind file rva front piece stands =
     record {
       place = stands.place + n;
       rest = stands.rest;
-      stands = sym (drop-drop n stands.place file) ∙ ap (λ (t : List ℕ). drop n t) (stands.stands ∙ append_assoc front piece stands.rest) ∙ drop_at front (piece ++ stands.rest) n refl;
+      stands = sym (drop-drop n stands.place file) ∙ ap (λ (t : List ℕ). drop n t) (stands.stands ∙ append_assoc front piece stands.rest)
+          ∙ drop_at front (piece ++ stands.rest) n refl;
       found = λ start len above inside.
           let there : rva + n + start ≡ rva + (n + start) = omega arith in
           let place : stands.place + (n + start) ≡ stands.place + n + start = omega arith in
-          ap (λ (t : ℕ). place_of file t len) there ∙ stands.found (n + start) len above (omega (arith, length-append front piece)) ∙ ap (λ (t : ℕ). Some t) place;
+          ap (λ (t : ℕ). place_of file t len) there ∙ stands.found (n + start) len above (omega (arith, length-append front piece))
+          ∙ ap (λ (t : ℕ). Some t) place;
     }
 
--- what is between others stands behind those in front of it
+-- what is between others is after those before it
 pub stands_between : (file : List ℕ) (rva : ℕ) (front piece behind : List ℕ) → Stands file rva (front ++ (piece ++ behind))
     → Stands file (rva + length front) piece
 stands_between file rva front piece behind stands =
@@ -77,9 +84,10 @@ pub found_empty : (file : List ℕ) (rva start : ℕ) (piece : List ℕ) → Sta
     → is_some (place_of file (rva + start) 0) ≡ true
 found_empty file rva start piece stands some within =
     let f = found_whole file rva piece stands some in
-    placed_within (sections_of file) rva (length piece) (rva + start) 0 (omega arith) (omega arith) (ap (λ (t : Option ℕ). is_some t) f.found)
+    placed_within (sections_of file) rva (length piece) (rva + start) 0 (omega arith) (omega arith)
+    (ap (λ (t : Option ℕ). is_some t) f.found)
 
--- a number in the bytes behind a place of a file
+-- a number in the bytes after a place of a file
 pub number_behind : (k x : ℕ) (file : List ℕ) (place : ℕ) (front behind : List ℕ) → drop place file ≡ front ++ (little_bytes k x ++ behind)
     → place + length front + k ≤ length file → x < 256 ^ k → field_at k file (place + length front) ≡ Some x
 number_behind k x file place front behind whole long fits =
@@ -90,12 +98,13 @@ number_behind k x file place front behind whole long fits =
     field_at-is k file (place + length front) long ∙ ap (λ (t : List ℕ). Some (little_number k t)) here
     ∙ ap (λ (t : ℕ). Some t) (little_number-reads_back k x behind fits)
 
--- what begins at a place of a file where bytes stand
+-- what begins at a place of a file where bytes are
 pub begins_with : (file : List ℕ) (place : ℕ) (piece : List ℕ) → take (length piece) (drop place file) ≡ piece
     → drop place file ≡ piece ++ drop (length piece) (drop place file)
-begins_with file place piece same = sym (take-append-drop (length piece) (drop place file)) ∙ ap (λ (t : List ℕ). t ++ drop (length piece) (drop place file)) same
+begins_with file place piece same =
+    sym (take-append-drop (length piece) (drop place file)) ∙ ap (λ (t : List ℕ). t ++ drop (length piece) (drop place file)) same
 
--- a number in bytes that stand at a place of a file
+-- a number in bytes that are at a place of a file
 pub number_stands : (k x : ℕ) (file : List ℕ) (place : ℕ) (front behind piece : List ℕ) → piece ≡ front ++ (little_bytes k x ++ behind)
     → place + length piece ≤ length file → take (length piece) (drop place file) ≡ piece → x < 256 ^ k
     → field_at k file (place + length front) ≡ Some x
@@ -142,7 +151,11 @@ length-header plan at = refl
 pub length-import_records : (plan : Image) (at : ℕ) → length (flat_map import_bytes (written_imports plan at)) ≡ 20 * length plan.imports
 unfolding written_imports
 length-import_records plan at =
-    omega (arith, length-of_equals import_bytes 20 (λ x. refl) (written_imports plan at), length-placed at (at + (parts_of plan).arrays) plan.imports)
+    omega (
+      arith,
+      length-of_equals import_bytes 20 (λ x. refl) (written_imports plan at),
+      length-placed at (at + (parts_of plan).arrays) plan.imports,
+    )
 
 pub length-imports : (plan : Image) (at : ℕ)
     → length (flat_map import_bytes (written_imports plan at)) + (parts_of plan).imports ≡ (parts_of plan).arrays
@@ -151,7 +164,8 @@ length-imports plan at = omega (arith, length-import_records plan at)
 
 -- 4 bytes for each slot
 pub length-arrays : (plan : Image) (rva : ℕ) → length (words (signature_rvas rva plan.slots)) ≡ 4 * length plan.slots
-length-arrays plan rva = omega (arith, length-of_equals (little_bytes 4) 4 (λ x. refl) (signature_rvas rva plan.slots), length-rvas rva plan.slots)
+length-arrays plan rva =
+    omega (arith, length-of_equals (little_bytes 4) 4 (λ x. refl) (signature_rvas rva plan.slots), length-rvas rva plan.slots)
 
 pub length-functions : (plan : Image) (unwind : ℕ)
     → length (function_bytes unwind plan.functions) + (parts_of plan).functions ≡ (parts_of plan).unwinds
@@ -179,7 +193,9 @@ pub record AreParts (plan : Image) : Type 0 where
 
 pub are_parts : (plan : Image) → AreParts plan
 unfolding parts_of
-are_parts plan = record { imports = refl; arrays = refl; functions = refl; unwinds = refl; identifier = refl; signatures = refl; entries = refl; end = refl }
+are_parts plan =
+    record
+    { imports = refl; arrays = refl; functions = refl; unwinds = refl; identifier = refl; signatures = refl; entries = refl; end = refl }
 
 abbrev total_length : List (List ℕ) → ℕ
 total_length [] = 0
@@ -218,7 +234,7 @@ end-is plan at =
 
 -- ---- each part at its RVA
 
--- lists of bytes, one behind the other from an RVA on
+-- lists of bytes, one after the other from an RVA on
 abbrev StandInARow : List ℕ → ℕ → List (List ℕ) → Type 0
 StandInARow file rva [] = Unit {0}
 StandInARow file rva (part ∷ parts) = Stands file rva part × StandInARow file (rva + length part) parts
@@ -253,7 +269,8 @@ pub imports_stand : (file : List ℕ) (plan : Image) (at rows : ℕ) → Carries
 imports_stand file plan at rows c =
     let p = are_parts plan in
     let l = have_lengths plan at in
-    stands_at file _ (at + (parts_of plan).imports) (flat_map import_bytes (written_imports plan at)) (omega arith) (parts_stand file plan at rows c).1.1.0
+    stands_at file _ (at + (parts_of plan).imports) (flat_map import_bytes (written_imports plan at)) (omega arith)
+    (parts_stand file plan at rows c).1.1.0
 
 pub arrays_stand : (file : List ℕ) (plan : Image) (at rows : ℕ) → Carries file plan at rows
     → Stands file (at + (parts_of plan).arrays) (words (signature_rvas (at + (parts_of plan).signatures) plan.slots))
@@ -276,7 +293,8 @@ pub unwinds_stand : (file : List ℕ) (plan : Image) (at rows : ℕ) → Carries
 unwinds_stand file plan at rows c =
     let p = are_parts plan in
     let l = have_lengths plan at in
-    stands_at file _ (at + (parts_of plan).unwinds) (unwind_bytes plan.functions) (omega arith) (parts_stand file plan at rows c).1.1.1.1.1.0
+    stands_at file _ (at + (parts_of plan).unwinds) (unwind_bytes plan.functions) (omega arith)
+    (parts_stand file plan at rows c).1.1.1.1.1.0
 
 pub identifier_stands : (file : List ℕ) (plan : Image) (at rows : ℕ) → Carries file plan at rows
     → Stands file (at + (parts_of plan).identifier) identifier
@@ -290,14 +308,16 @@ pub signatures_stand : (file : List ℕ) (plan : Image) (at rows : ℕ) → Carr
 signatures_stand file plan at rows c =
     let p = are_parts plan in
     let l = have_lengths plan at in
-    stands_at file _ (at + (parts_of plan).signatures) (signature_bytes_of plan.slots) (omega arith) (parts_stand file plan at rows c).1.1.1.1.1.1.1.0
+    stands_at file _ (at + (parts_of plan).signatures) (signature_bytes_of plan.slots) (omega arith)
+    (parts_stand file plan at rows c).1.1.1.1.1.1.1.0
 
 pub entries_stand : (file : List ℕ) (plan : Image) (at rows : ℕ) → Carries file plan at rows
     → Stands file (at + (parts_of plan).entries) (entry_bytes plan.entries)
 entries_stand file plan at rows c =
     let p = are_parts plan in
     let l = have_lengths plan at in
-    stands_at file _ (at + (parts_of plan).entries) (entry_bytes plan.entries) (omega arith) (parts_stand file plan at rows c).1.1.1.1.1.1.1.1.0
+    stands_at file _ (at + (parts_of plan).entries) (entry_bytes plan.entries) (omega arith)
+    (parts_stand file plan at rows c).1.1.1.1.1.1.1.1.0
 
 -- ---- a section of the ReadyToRun header whose bytes these are
 

@@ -1,12 +1,7 @@
 -- What the types of a plan's fields say of their numbers.
 use Rattle.std.proofs.Common.{ℕ, ◌^◌, ◌<◌, All}
-use Rattle.native_format.specs.Nibbles.{FitsWords}
-use Rattle.rtr_sections.specs.declared.entries.EntryPoint.{EntryPoint}
 use Rattle.rtr_sections.specs.declared.image.Image.{Image}
-
--- each number of its list has 32 bits
-abbrev pub HasWords : EntryPoint → Type 0
-HasWords entry = All FitsWords entry.fixups
+use Rattle.rtr_sections.specs.Bounds.{HasWords}
 
 -- Each number is one of its field's type.
 pub record FitsTypes (plan : Image) : Type 0 where

@@ -1,12 +1,13 @@
 -- The numbers of a plan fit their types: those that were read, and the slots' that name what exists.
-use Rattle.std.proofs.Common.{◌≡◌, ℕ, zero, suc, ◌+◌, ◌*◌, ◌^◌, ◌<◌, ◌≤◌, List, [], ◌∷◌, length, All, Option, Some, None, arith}
+use Rattle.std.proofs.Common.{◌≡◌, ℕ, zero, suc, ◌+◌, ◌*◌, ◌^◌, ◌<◌, ◌≤◌, List, [], ◌∷◌, length, All, arith}
 use Rattle.std.proofs.lemmas.List.Elements.{All-nil, All-cons, All-head, All-tail}
 use Rattle.rtr_sections.specs.declared.image.Image.{Image}
 use Rattle.rtr_sections.specs.declared.imports.ImportSection.{ImportSection}
 use Rattle.rtr_sections.specs.Imports.{slot_count}
 use Rattle.rtr_sections.specs.Parts.{placed_imports}
 use Rattle.rtr_sections.specs.Plan.{IsPlan, IsWellPlanned, Names}
-use Rattle.rtr_sections.proofs.Types.{FitsTypes, HasWords}
+use Rattle.rtr_sections.specs.Bounds.{HasWords}
+use Rattle.rtr_sections.proofs.Types.{FitsTypes}
 use Rattle.rtr_sections.proofs.WrittenLemmas.{fits_in}
 
 abbrev HasSize : ImportSection → Type 0
@@ -35,7 +36,8 @@ flags_kept [] cells arrays h = All-nil HasFlags
 flags_kept (import ∷ imports) cells arrays h =
     let placed = record import { rva = cells; signatures = arrays } in
     let others = placed_imports (cells + import.size) (arrays + 4 * slot_count import) imports in
-    All-cons HasFlags import imports (All-head HasFlags placed others h) (flags_kept imports (cells + import.size) (arrays + 4 * slot_count import) (All-tail HasFlags placed others h))
+    All-cons HasFlags import imports (All-head HasFlags placed others h)
+    (flags_kept imports (cells + import.size) (arrays + 4 * slot_count import) (All-tail HasFlags placed others h))
 
 pub types_fit : (plan : Image) (at cells arrays : ℕ) (placed : List ImportSection) → IsPlan plan at
     → placed ≡ placed_imports cells arrays plan.imports

@@ -1,4 +1,4 @@
--- On what the bytes of a written part, its length and its places rest.
+-- On what the bytes of a written part, its length and its places depend.
 use Rattle.std.proofs.Common.{◌≡◌, ℕ, ◌+◌, ◌*◌, List, [], ◌∷◌, ◌++◌, length, map, Bool, true, false, refl, ap, ◌∙◌, sym}
 use Rattle.std.specs.Prelude.{◌==◌}
 use Rattle.std.proofs.lemmas.List.{length-map}
@@ -10,7 +10,8 @@ use Rattle.rtr_sections.specs.declared.image.Image.{Image}
 use Rattle.rtr_sections.specs.declared.imports.ImportSection.{ImportSection}
 use Rattle.rtr_sections.specs.declared.slots.Slot.{Slot}
 use Rattle.rtr_sections.specs.Imports.{slot_count}
-use Rattle.rtr_sections.specs.Parts.{Parts, cell_spans, entry_bytes, header_span, parts_in_order, parts_of, placed_imports, part_bytes, sections_at, signature_bytes_of, thunks_of, written_imports, written_sections}
+use Rattle.rtr_sections.specs.Parts.{Parts, cell_spans, entry_bytes, header_span, parts_in_order, parts_of, placed_imports, part_bytes}
+use Rattle.rtr_sections.specs.Parts.{sections_at, signature_bytes_of, thunks_of, written_imports, written_sections}
 use Rattle.rtr_sections.specs.Written.{asked_of, shape_of, without_begin, without_own_range, without_places, without_word}
 use Rattle.rtr_sections.proofs.Stands.{end-is}
 
@@ -20,7 +21,8 @@ placed_alone : (imports : List ImportSection) (cells arrays : ℕ)
     → placed_imports cells arrays (map without_places imports) ≡ placed_imports cells arrays imports
 placed_alone [] cells arrays = refl
 placed_alone (import ∷ imports) cells arrays =
-    ap (λ (t : List ImportSection). record import { rva = cells; signatures = arrays } ∷ t) (placed_alone imports (cells + import.size) (arrays + 4 * slot_count import))
+    ap (λ (t : List ImportSection). record import { rva = cells; signatures = arrays } ∷ t)
+    (placed_alone imports (cells + import.size) (arrays + 4 * slot_count import))
 
 pub same_placed : (xs ys : List ImportSection) (cells arrays : ℕ) → map without_places xs ≡ map without_places ys
     → placed_imports cells arrays xs ≡ placed_imports cells arrays ys
@@ -61,9 +63,10 @@ pub same_parts : (p q : Image) → length p.imports ≡ length q.imports → len
     → signature_bytes_of p.slots ≡ signature_bytes_of q.slots → p.entries ≡ q.entries → parts_of p ≡ parts_of q
 unfolding parts_of
 same_parts p q imports slots functions signatures entries =
-    same_behind _ _ _ _ _ _ _ _ _ _ imports slots functions (ap (λ (t : List ℕ). length t) signatures) (ap (λ (t : List EntryPoint). length (entry_bytes t)) entries)
+    same_behind _ _ _ _ _ _ _ _ _ _ imports slots functions (ap (λ (t : List ℕ). length t) signatures)
+    (ap (λ (t : List EntryPoint). length (entry_bytes t)) entries)
 
--- ---- what a shape tells
+-- ---- what a shape decides
 
 pub record HasShape (p q : Image) : Type 0 where
   pub imports : map without_places p.imports ≡ map without_places q.imports
@@ -83,24 +86,28 @@ has_shape p q e = record {
 pub shape_parts : (p q : Image) → shape_of p ≡ shape_of q → parts_of p ≡ parts_of q
 shape_parts p q e =
     let h = has_shape p q e in
-    same_parts p q (same_count without_places p.imports q.imports h.imports) (same_count without_word p.slots q.slots h.slots) (same_count without_begin p.functions q.functions h.functions)
+    same_parts p q (same_count without_places p.imports q.imports h.imports) (same_count without_word p.slots q.slots h.slots)
+    (same_count without_begin p.functions q.functions h.functions)
     (same_signatures p.slots q.slots h.slots) h.entries
 
 pub shape_imports : (p q : Image) (at : ℕ) → shape_of p ≡ shape_of q → written_imports p at ≡ written_imports q at
 unfolding written_imports
 shape_imports p q at e =
-    same_placed p.imports q.imports at (at + (parts_of p).arrays) (has_shape p q e).imports ∙ ap (λ (t : Parts). placed_imports at (at + t.arrays) q.imports) (shape_parts p q e)
+    same_placed p.imports q.imports at (at + (parts_of p).arrays) (has_shape p q e).imports
+    ∙ ap (λ (t : Parts). placed_imports at (at + t.arrays) q.imports) (shape_parts p q e)
 
 pub shape_header : (p q : Image) (at : ℕ) → shape_of p ≡ shape_of q → header_span p at ≡ header_span q at
 shape_header p q at e = ap (λ (t : Parts). record { start = at + t.header; len = 76 }) (shape_parts p q e)
 
 pub shape_cells : (p q : Image) (at : ℕ) → shape_of p ≡ shape_of q → cell_spans p at ≡ cell_spans q at
-shape_cells p q at e = ap (λ (t : List ImportSection). map (λ (import : ImportSection). record { start = import.rva; len = import.size }) t) (shape_imports p q at e)
+shape_cells p q at e =
+    ap (λ (t : List ImportSection). map (λ (import : ImportSection). record { start = import.rva; len = import.size }) t)
+    (shape_imports p q at e)
 
 pub shape_length : (p q : Image) (at : ℕ) → shape_of p ≡ shape_of q → length (part_bytes p at) ≡ length (part_bytes q at)
 shape_length p q at e = end-is p at ∙ ap (λ (t : Parts). t.end) (shape_parts p q e) ∙ sym (end-is q at)
 
--- ---- the bytes rest on nothing but what is asked
+-- ---- the bytes depend on nothing but what is asked
 
 pub record AreAsked (p q : Image) : Type 0 where
   pub flags : p.header.flags ≡ q.header.flags
@@ -123,7 +130,8 @@ are_asked p q e = record {
 
 asked_parts : (p q : Image) → AreAsked p q → parts_of p ≡ parts_of q
 asked_parts p q h =
-    same_parts p q (same_count without_places p.imports q.imports h.imports) (ap (λ (t : List Slot). length t) h.slots) (ap (λ (t : List Function). length t) h.functions)
+    same_parts p q (same_count without_places p.imports q.imports h.imports) (ap (λ (t : List Slot). length t) h.slots)
+    (ap (λ (t : List Function). length t) h.functions)
     (ap (λ (t : List Slot). signature_bytes_of t) h.slots) h.entries
 
 asked_sections : (p q : Image) (at : ℕ) → AreAsked p q → written_sections p at ≡ written_sections q at
@@ -135,7 +143,8 @@ asked_sections p q at h =
 asked_imports : (p q : Image) (at : ℕ) → AreAsked p q → written_imports p at ≡ written_imports q at
 unfolding written_imports
 asked_imports p q at h =
-    same_placed p.imports q.imports at (at + (parts_of p).arrays) h.imports ∙ ap (λ (t : Parts). placed_imports at (at + t.arrays) q.imports) (asked_parts p q h)
+    same_placed p.imports q.imports at (at + (parts_of p).arrays) h.imports
+    ∙ ap (λ (t : Parts). placed_imports at (at + t.arrays) q.imports) (asked_parts p q h)
 
 pub asked_bytes : (p q : Image) (at : ℕ) → asked_of p ≡ asked_of q → part_bytes p at ≡ part_bytes q at
 unfolding part_bytes

@@ -1,6 +1,7 @@
 -- MethodDefEntryPoints (ReadyToRun File Format, "READYTORUN_SECTION_METHODDEF_ENTRYPOINTS"): a sparse array by
 -- MethodDef rows, whose elements name a method's function and the slots that it needs.
-use Rattle.std.specs.Prelude.{ℕ, ◌+◌, ◌-◌, ◌*◌, ◌/◌, ◌%◌, ◌==◌, ◌&&◌, ◌||◌, List, [], take, drop, Bool, false, Option, Some, None, Ok, Err, if◌then◌else◌, nat_le, nat_lt}
+use Rattle.std.specs.Prelude.{ℕ, ◌+◌, ◌-◌, ◌*◌, ◌/◌, ◌%◌, ◌==◌, ◌&&◌, ◌||◌, List, [], take, drop, Bool, false, Option, Some, None, Ok, Err}
+use Rattle.std.specs.Prelude.{if◌then◌else◌, nat_le, nat_lt}
 use Rattle.std.specs.Option.{option_map, option_map_or, option_and_then}
 use Rattle.std.specs.List.{list_all}
 use Rattle.rtr_bytes.specs.declared.fault.Span.{Span}
@@ -27,11 +28,12 @@ function_of_id id = if id % 2 == 0 then id / 2 else id / 4
 abbrev pub back_from : ℕ → ℕ → Option ℕ
 back_from start distance = if nat_le distance start then Some (start - distance) else None
 
--- The file offset of the list: behind the id or, with bit 1, as far in front of the integer behind the id as that
+-- The file offset of the list: after the id or, with bit 1, as far before the integer after the id as that
 -- integer says.
 abbrev pub list_place : List ℕ → ℕ → ℕ → ℕ → Option ℕ
 list_place slice start id behind =
-    if id / 2 % 2 == 0 then Some (start + behind) else option_and_then (λ distance. back_from (start + behind) distance.0) (uint_at slice behind)
+    if id / 2 % 2 == 0 then Some (start + behind) else option_and_then (λ distance. back_from (start + behind) distance.0)
+    (uint_at slice behind)
 
 -- no list, or the one at its place, which the file's end bounds
 abbrev pub fixups_of_id : List ℕ → Span → ℕ → ℕ → Option (List SlotRef)
@@ -44,11 +46,11 @@ entry_point row id fixups = record { row = row; function = function_of_id id; fi
 abbrev pub entry_of_id : List ℕ → Span → ℕ → ℕ × ℕ → Option EntryPoint
 entry_of_id bytes part row id = option_map (entry_point row id.0) (fixups_of_id bytes part id.0 id.1)
 
--- the entry whose content stands at a place of the section; none where it isn't whole
+-- the entry whose content is at a place of the section; none where it isn't whole
 unfoldable pub entry_at : List ℕ → Span → ℕ → ℕ → Option EntryPoint
 entry_at bytes part row at = option_and_then (entry_of_id bytes part row) (uint_at (bytes_in bytes part) at)
 
--- an import record and a slot of it: its size is behind its RVA, and a cell has 8 bytes
+-- an import record and a slot of it: its size is after its RVA, and a cell has 8 bytes
 abbrev pub names_slot : List ℕ → Span → SlotRef → Bool
 names_slot bytes imports r =
     nat_lt r.section (import_count imports) && nat_lt r.slot (u32_of bytes (imports.start + 20 * r.section + 4) / 8)

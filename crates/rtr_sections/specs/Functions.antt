@@ -1,4 +1,4 @@
--- RuntimeFunctions (ReadyToRun File Format, "READYTORUN_SECTION_RUNTIME_FUNCTIONS"): where each method's code stands.
+-- RuntimeFunctions (ReadyToRun File Format, "READYTORUN_SECTION_RUNTIME_FUNCTIONS"): where each method's code is.
 use Rattle.std.specs.Prelude.{ℕ, ◌+◌, ◌-◌, ◌/◌, ◌%◌, ◌==◌, ◌&&◌, List, Bool, Option, Some, if◌then◌else◌, nat_le, nat_lt, is_some}
 use Rattle.std.specs.Option.{option_map_or}
 use Rattle.rtr_bytes.specs.declared.fault.Span.{Span}
@@ -30,13 +30,13 @@ end_of function = function.begin + function.length
 unfoldable pub end_before : List ℕ → ℕ → ℕ → ℕ
 end_before bytes start at = if nat_lt start at then end_of (function_at bytes (at - 8)) else 0
 
--- its code is whole instructions of 4 bytes in a section, behind the code of the entry before
+-- its code is whole instructions of 4 bytes in a section, after the code of the entry before
 abbrev pub is_function : List ℕ → ℕ → Function → Bool
 is_function bytes low function =
     function.begin % 4 == 0 && function.length % 4 == 0
     && is_some (place_of bytes function.begin function.length) && nat_le low function.begin
 
--- an entry behind code that ends at an RVA
+-- an entry after code that ends at an RVA
 unfoldable pub holds_behind : List ℕ → ℕ → ℕ → Bool
 holds_behind bytes low at = is_some (unwind_place bytes at) && is_function bytes low (function_at bytes at)
 

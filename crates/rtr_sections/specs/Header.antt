@@ -1,5 +1,6 @@
 -- The ReadyToRun header of a file (ReadyToRun File Format, "Structures"), its section records, and their checks.
-use Rattle.std.specs.Prelude.{ℕ, ◌+◌, ◌-◌, ◌*◌, ◌%◌, ◌==◌, ◌&&◌, ◌||◌, List, [], ◌∷◌, ◌++◌, drop, codes, Bool, false, Option, Some, None, nat_lt, not, is_some, nat_eq, if◌then◌else◌, unwrap_or, find}
+use Rattle.std.specs.Prelude.{ℕ, ◌+◌, ◌-◌, ◌*◌, ◌%◌, ◌==◌, ◌&&◌, ◌||◌, List, [], ◌∷◌, ◌++◌, drop, codes, Bool, false, Option, Some, None}
+use Rattle.std.specs.Prelude.{nat_lt, not, is_some, nat_eq, if◌then◌else◌, unwrap_or, find}
 use Rattle.std.specs.Option.{option_map, option_map_or}
 use Rattle.std.specs.List.{list_any, starts_with}
 use Rattle.rtr_bytes.specs.declared.fault.Span.{Span}
@@ -20,7 +21,7 @@ native_at bytes = unwrap_or (place_of bytes (native_rva bytes) 16) 0
 abbrev pub record_count : List ℕ → ℕ
 record_count bytes = u32_of bytes (native_at bytes + 12)
 
--- the section records, 12 bytes each, stand behind the header; their range is looked up by itself
+-- the section records, 12 bytes each, are after the header; their range is looked up by itself
 abbrev pub records_place : List ℕ → Option ℕ
 records_place bytes = place_of bytes (native_rva bytes + 16) (12 * record_count bytes)
 
@@ -114,7 +115,7 @@ is_own bytes =
     machine_of bytes == 0xAA64 && u16_of bytes (native_at bytes + 4) == 5 && u16_of bytes (native_at bytes + 6) == 0
     && list_any (is_identifier bytes) (rtr_sections_of bytes)
 
--- the header that stands in a file with a native header
+-- the header in a file with a native header
 unfoldable pub rtr_header_of : List ℕ → RtrHeader
 rtr_header_of bytes = record {
   at = native_at bytes;
@@ -128,7 +129,7 @@ rtr_header_of bytes = record {
 abbrev pub section_of_kind : List ℕ → ℕ → Option RtrSection
 section_of_kind bytes kind = find (λ s. s.kind == kind) (rtr_sections_of bytes)
 
--- Where a section's bytes stand in the file. One that is missing or has size 0 is empty.
+-- Where a section's bytes are in the file. One that is missing or has size 0 is empty.
 abbrev pub part_at : List ℕ → Option RtrSection → Span
 part_at bytes None = record { start = 0; len = 0 }
 part_at bytes (Some s) = record { start = unwrap_or (place_of bytes s.rva s.size) 0; len = s.size }

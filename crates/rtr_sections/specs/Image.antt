@@ -35,7 +35,7 @@ own_checks rows =
 unfoldable pub rtr_checks : ℕ → List Check
 rtr_checks rows = header_checks ++ (image_checks ++ own_checks rows)
 
--- what stands in a file with a native header: of a foreign image nothing but the header and the import records
+-- what is in a file with a native header: of a foreign image nothing but the header and the import records
 unfoldable pub own_image_of : List ℕ → Image
 own_image_of bytes = record {
   header = rtr_header_of bytes;

@@ -1,5 +1,6 @@
 -- Import sections (ReadyToRun File Format, "READYTORUN_IMPORT_SECTIONS"): records of cells and their fixups.
-use Rattle.std.specs.Prelude.{ℕ, ◌+◌, ◌-◌, ◌*◌, ◌/◌, ◌%◌, ◌==◌, ◌&&◌, ◌||◌, List, [], ◌∷◌, slice_index, Bool, Option, Some, None, nat_le, is_some, unwrap_or, if◌then◌else◌}
+use Rattle.std.specs.Prelude.{ℕ, ◌+◌, ◌-◌, ◌*◌, ◌/◌, ◌%◌, ◌==◌, ◌&&◌, ◌||◌, List, [], ◌∷◌, slice_index, Bool, Option, Some, None, nat_le}
+use Rattle.std.specs.Prelude.{is_some, unwrap_or, if◌then◌else◌}
 use Rattle.std.specs.Option.{option_map, option_and_then, option_or}
 use Rattle.std.specs.List.{flat_map}
 use Rattle.rtr_bytes.specs.declared.fault.Span.{Span}
@@ -74,7 +75,7 @@ foreign_import bytes part = first_record (has_own_form bytes) part.start 20 (imp
 abbrev pub named_fixup : List ℕ → ℕ → Option Fixup
 named_fixup bytes at = option_and_then (fixup_at bytes) (place_of bytes (u32_of bytes at) 1)
 
--- the slot of an array's word, whose cell stands at a place
+-- the slot of an array's word, whose cell is at a place
 unfoldable pub slot_at : List ℕ → ℕ → ℕ → Option Slot
 slot_at bytes at cell =
     option_map (λ fixup. record { fixup = fixup; word = unwrap_or (field_at 8 bytes cell) 0 }) (named_fixup bytes at)
@@ -102,7 +103,7 @@ first_bad_of bytes (import ∷ imports) = option_or (first_bad_word bytes import
 abbrev pub all_slots : List ℕ → List ImportSection → List Slot
 all_slots bytes imports = flat_map (slots_in bytes) imports
 
--- a record's cells stand behind those of the record before
+-- a record's cells are after those of the record before
 abbrev pub follows : List ℕ → ℕ → Bool
 follows bytes at = nat_le (u32_of bytes (at - 20) + u32_of bytes (at - 20 + 4)) (u32_of bytes at)
 

@@ -11,3 +11,4 @@ pub mod Parts
 pub mod Plan
 pub mod Written
 pub mod PartPlaces
+pub mod Bounds

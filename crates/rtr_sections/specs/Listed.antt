@@ -1,4 +1,4 @@
--- Records that stand in a row, by the list of them: the first that fails a test, and the first out of order.
+-- Records in a row, by the list of them: the first that fails a test, and the first out of order.
 use Rattle.std.specs.Prelude.{ℕ, ◌+◌, List, [], ◌∷◌, Bool, Option, Some, None, nat_le, if◌then◌else◌}
 
 -- the place of the first that fails a test; the first record is at a place, and each has a size

@@ -1,4 +1,4 @@
--- The ReadyToRun part as this compiler writes it: the parts of it, one after the other, where each stands, and its bytes.
+-- The ReadyToRun part as this compiler writes it: the parts of it, one after the other, where each is, and its bytes.
 use Rattle.std.specs.Prelude.{ℕ, ◌+◌, ◌-◌, ◌*◌, ◌==◌, List, [], ◌∷◌, ◌++◌, length, map, flat_map, max, find, unwrap_or}
 use Rattle.byteorder.specs.Endian.{little_bytes}
 use Rattle.rtr_bytes.specs.declared.fault.Span.{Span}
@@ -36,7 +36,7 @@ highest_row (entry ∷ entries) = max entry.row (highest_row entries)
 unfoldable pub entry_bytes : List EntryPoint → List ℕ
 entry_bytes entries = sparse_bytes (highest_row entries) (map element_of_entry entries)
 
--- ---- where each part stands, counted from the first byte
+-- ---- where each part is, counted from the first byte
 
 -- The cells come first, from 0 on; each part begins where the one before it ends.
 pub record Parts : Type 0 where
@@ -80,9 +80,10 @@ parts_in_order imports slots functions signatures entries =
 
 unfoldable pub parts_of : Image → Parts
 parts_of plan =
-    parts_in_order (length plan.imports) (length plan.slots) (length plan.functions) (length (signature_bytes_of plan.slots)) (length (entry_bytes plan.entries))
+    parts_in_order (length plan.imports) (length plan.slots) (length plan.functions) (length (signature_bytes_of plan.slots))
+    (length (entry_bytes plan.entries))
 
--- ---- the records that stand there
+-- ---- the records that are there
 
 -- DelayLoadMethodCallThunks, whose range is the plan's
 abbrev pub thunks_of : List RtrSection → RtrSection
@@ -103,7 +104,7 @@ sections_at at parts thunks =
 unfoldable pub written_sections : Image → ℕ → List RtrSection
 written_sections plan at = sections_at at (parts_of plan) (thunks_of plan.header.sections)
 
--- import records, whose cells and arrays stand one after the other from two RVAs on
+-- import records, whose cells and arrays are one after the other from two RVAs on
 abbrev pub placed_imports : ℕ → ℕ → List ImportSection → List ImportSection
 placed_imports cells arrays [] = []
 placed_imports cells arrays (import ∷ imports) =
@@ -131,13 +132,15 @@ section_bytes s = little_bytes 4 s.kind ++ (little_bytes 4 s.rva ++ little_bytes
 -- "RTR" and a zero, version 5.0, Flags, NumberOfSections, and the section records
 abbrev pub header_bytes : ℕ → List RtrSection → List ℕ
 header_bytes flags sections =
-    little_bytes 4 0x00525452 ++ (little_bytes 2 5 ++ (little_bytes 2 0 ++ (little_bytes 4 flags ++ (little_bytes 4 5 ++ flat_map section_bytes sections))))
+    little_bytes 4 0x00525452 ++ (little_bytes 2
+    5 ++ (little_bytes 2 0 ++ (little_bytes 4 flags ++ (little_bytes 4 5 ++ flat_map section_bytes sections))))
 
 abbrev pub import_bytes : ImportSection → List ℕ
 import_bytes i =
-    little_bytes 4 i.rva ++ (little_bytes 4 i.size ++ (little_bytes 2 i.flags ++ (i.kind ∷ i.entry_size ∷ (little_bytes 4 i.signatures ++ little_bytes 4 i.auxiliary))))
+    little_bytes 4 i.rva ++ (little_bytes 4
+    i.size ++ (little_bytes 2 i.flags ++ (i.kind ∷ i.entry_size ∷ (little_bytes 4 i.signatures ++ little_bytes 4 i.auxiliary))))
 
--- RuntimeFunctions, whose unwind words stand one after the other from an RVA on
+-- RuntimeFunctions, whose unwind words are one after the other from an RVA on
 abbrev pub function_bytes : ℕ → List Function → List ℕ
 function_bytes unwind [] = []
 function_bytes unwind (f ∷ fs) = little_bytes 4 f.begin ++ (little_bytes 4 unwind ++ function_bytes (unwind + 4) fs)

@@ -59,7 +59,7 @@ pub record IsWrittenAfter (sections : List PeSection) (bytes dat cod : List ℕ)
   pub native_rva : u32_of dat (cli - dat_rva sections + 64) ≡ (header_span plan (dat_rva sections)).start
   pub native_size : u32_of dat (cli - dat_rva sections + 68) ≡ (header_span plan (dat_rva sections)).len
 
--- ---- on what the bytes and the places rest
+-- ---- on what the bytes and the places depend
 
 abbrev pub without_range : RtrSection → RtrSection
 without_range s = record { kind = s.kind; rva = 0; size = 0 }
@@ -79,7 +79,14 @@ without_begin f = record f { begin = 0 }
 -- a plan without what the writer chooses: places, and the sizes of its own sections
 unfoldable pub asked_of : Image → Image
 asked_of plan = record {
-  header = record { at = 0; major = plan.header.major; minor = plan.header.minor; flags = plan.header.flags; sections = map without_own_range plan.header.sections };
+  header = record {
+    at = 0;
+    major = plan.header.major;
+    minor = plan.header.minor;
+    flags = plan.header.flags;
+    sections = map
+        without_own_range plan.header.sections;
+  };
   imports = map without_places plan.imports;
   slots = plan.slots;
   functions = plan.functions;
@@ -90,7 +97,14 @@ asked_of plan = record {
 -- and without the slots' words, the functions' begins and the range of the thunks
 unfoldable pub shape_of : Image → Image
 shape_of plan = record {
-  header = record { at = 0; major = plan.header.major; minor = plan.header.minor; flags = plan.header.flags; sections = map without_range plan.header.sections };
+  header = record {
+    at = 0;
+    major = plan.header.major;
+    minor = plan.header.minor;
+    flags = plan.header.flags;
+    sections = map without_range
+        plan.header.sections;
+  };
   imports = map without_places plan.imports;
   slots = map without_word plan.slots;
   functions = map without_begin plan.functions;

@@ -16,14 +16,14 @@ use native_format::{ListRefusal, SlotRef, SparseArray, read_nibbles, read_uint};
 use rtr_bytes::{Fault, NoMemory, ReadRefusal, Sequence, Span, ensure};
 use std::alloc::Global;
 
-/// The entry of a compiled method.
+/// The entry of a compiled method (ReadyToRun File Format, "READYTORUN_SECTION_METHODDEF_ENTRYPOINTS").
 #[derive(Debug, Drop)]
 pub struct EntryPoint {
     /// Its MethodDef row, from 1.
     pub row: u32,
     /// Its function, as an index of RuntimeFunctions from 0.
     pub function: u32,
-    /// The slots that it needs, ascending by section and slot.
+    /// The slots that it needs before its code runs, ascending by section and then by slot.
     pub fixups: Sequence<SlotRef>,
 }
 
@@ -148,7 +148,6 @@ impl EntryPoint {
 fn check_paths(array: &SparseArray<'_>, part: Span) -> Result<(), Fault>
     requires in_reach { part.start + part.len < 2 ^ 32 }
     requires within { length array.now.bytes ≤ part.len }
-    requires whole { array_at array.now.bytes 0 ≡ Some array.now }
     ensures fault { IfErr result (λ f. fault_or 64 (first_bad (cut_place part.start array.now) 0 array.now.count) None ≡ Some f) }
     ensures ok { OnOk result (first_bad (cut_place part.start array.now) 0 array.now.count ≡ None) }
 {
@@ -165,7 +164,6 @@ fn check_paths(array: &SparseArray<'_>, part: Span) -> Result<(), Fault>
 
 /// The place of an index's content.
 fn content_at(array: &SparseArray<'_>, index: u32) -> Option<u32>
-    requires whole { array_at array.now.bytes 0 ≡ Some array.now }
     ensures place { result ≡ content_place (element_of array.now index) }
     ensures within { IfSome result (λ at. at ≤ length array.now.bytes) }
 {
@@ -204,7 +202,6 @@ fn check_links(
 ) -> Result<(), Fault>
     requires in_reach { part.start + part.len < 2 ^ 32 }
     requires within { length array.now.bytes ≤ part.len }
-    requires whole { array_at array.now.bytes 0 ≡ Some array.now }
     requires lists { lists.old.bytes ≡ file.now }
     ensures fault { IfErr result (λ f. fault_or 65 (first_bad (unlinked_index file.now part lists.old.imports functions array.now) 0 array.now.count) None ≡ Some f) }
     ensures ok { OnOk result (first_bad (unlinked_index file.now part lists.old.imports functions array.now) 0 array.now.count ≡ None) }
@@ -225,6 +222,7 @@ fn read_array<'a>(file: &'a File<'_>, part: Span, rows: u32) -> Result<SparseArr
     ensures fault { IfErr result (λ f. fault_or 63 (bad_array rows file.now part) None ≡ Some f) }
     ensures ok { OnOk result (bad_array rows file.now part ≡ None) }
     ensures array { IfOk result (λ array. array_at (bytes_in file.now part) 0 ≡ Some array) }
+    ensures bytes { IfOk result (λ array. array.bytes ≡ bytes_in file.now part) }
 {
     match SparseArray::read(file.part(part), 0) {
         Ok(array) if array.count() <= rows => Ok(array),
@@ -271,7 +269,6 @@ fn read_all(
     array: &SparseArray<'_>,
 ) -> Result<Vec<EntryPoint>, NoMemory>
     requires in_reach { part.start + part.len < 2 ^ 32 }
-    requires whole { array_at array.now.bytes 0 ≡ Some array.now }
     ensures { IfOk result (λ entries. entries.items ≡ present (entry_of file.now part array.now) 0 array.now.count) }
 {
     let mut entries = Vec::new(alloc);

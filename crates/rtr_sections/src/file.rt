@@ -76,14 +76,14 @@ impl<'a> File<'a> {
     }
 
     /// The 16-bit number at a file offset, and 0 where it passes the end.
-    pub(crate) fn u16_at(&self, at: u32) -> u16
+    pub(crate) fn u16_or_zero(&self, at: u32) -> u16
         ensures { result ≡ u16_of self.now at }
     {
         u16_or_zero(self.bytes, at)
     }
 
     /// The 32-bit number at a file offset, and 0 where it passes the end.
-    pub(crate) fn u32_at(&self, at: u32) -> u32
+    pub(crate) fn u32_or_zero(&self, at: u32) -> u32
         ensures { result ≡ u32_of self.now at }
     {
         u32_or_zero(self.bytes, at)

@@ -9,7 +9,7 @@ use crate::file::File;
 use rtr_bytes::{Fault, ReadRefusal, Span, ensure};
 use std::alloc::Global;
 
-/// One entry of RuntimeFunctions.
+/// One entry of RuntimeFunctions (ReadyToRun File Format, "READYTORUN_SECTION_RUNTIME_FUNCTIONS").
 #[derive(Clone, Copy, Debug, PartialEq, Eq)]
 pub struct Function {
     /// The RVA of the code's first instruction.
@@ -33,10 +33,10 @@ impl Function {
         ensures there { is_some result ≡ is_some (unwind_place file.now at) }
         ensures function { IfSome result (λ function. function ≡ function_at file.now at) }
     {
-        let unwind = file.place_of(file.u32_at(at + 4), UNWIND_SIZE)?;
+        let unwind = file.place_of(file.u32_or_zero(at + 4), UNWIND_SIZE)?;
         Some(Function {
-            begin: file.u32_at(at),
-            length: file.u32_at(unwind),
+            begin: file.u32_or_zero(at),
+            length: file.u32_or_zero(unwind),
         })
     }
 

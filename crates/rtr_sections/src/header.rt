@@ -14,10 +14,10 @@ use crate::imports;
 use rtr_bytes::{Fault, NoMemory, ReadRefusal, Sequence, Span, ensure};
 use std::alloc::Global;
 
-/// One section record of the ReadyToRun header.
+/// One section record of the ReadyToRun header (ReadyToRun File Format, "READYTORUN_SECTION").
 #[derive(Clone, Copy, Debug, PartialEq, Eq)]
 pub struct RtrSection {
-    /// Type (ReadyToRunSectionType): 101 for ImportSections, say.
+    /// Type (ReadyToRunSectionType): 101 is ImportSections.
     pub kind: u32,
     /// The RVA of the section's first byte.
     pub rva: u32,
@@ -25,7 +25,7 @@ pub struct RtrSection {
     pub size: u32,
 }
 
-/// A ReadyToRun header with its section records.
+/// A ReadyToRun header with its section records (ReadyToRun File Format, "READYTORUN_HEADER").
 #[derive(Debug, Drop)]
 pub struct RtrHeader {
     /// The file offset of its first byte.
@@ -65,9 +65,9 @@ const IDENTIFIER_SIZE: u32 = 14;
 /// The machine of this compiler's images, IMAGE_FILE_MACHINE_ARM64.
 const MACHINE_ARM64: u16 = 0xAA64;
 /// MajorVersion of this compiler's images.
-const MAJOR_VERSION: u16 = 5;
+pub(crate) const MAJOR_VERSION: u16 = 5;
 /// MinorVersion of this compiler's images.
-const MINOR_VERSION: u16 = 0;
+pub(crate) const MINOR_VERSION: u16 = 0;
 
 /// Where a header and its section records are in the file.
 #[derive(Clone, Copy)]
@@ -112,11 +112,11 @@ fn locate(file: &File<'_>, native: Span) -> Result<HeaderPlaces, Fault>
         });
     };
     ensure(
-        file.u32_at(header) == SIGNATURE,
+        file.u32_or_zero(header) == SIGNATURE,
         Check::Signature as u16,
         header,
     )?;
-    let count = file.u32_at(header + 12);
+    let count = file.u32_or_zero(header + 12);
     match records_in(file, native.start, count) {
         Some(records) => Ok(HeaderPlaces {
             header,
@@ -137,9 +137,9 @@ impl RtrSection {
         ensures { result ≡ rtr_section_at file.now at }
     {
         RtrSection {
-            kind: file.u32_at(at),
-            rva: file.u32_at(at + 4),
-            size: file.u32_at(at + 8),
+            kind: file.u32_or_zero(at),
+            rva: file.u32_or_zero(at + 4),
+            size: file.u32_or_zero(at + 8),
         }
     }
 
@@ -297,9 +297,9 @@ impl RtrHeader {
     {
         RtrHeader {
             at,
-            major: file.u16_at(at + 4),
-            minor: file.u16_at(at + 6),
-            flags: file.u32_at(at + 8),
+            major: file.u16_or_zero(at + 4),
+            minor: file.u16_or_zero(at + 6),
+            flags: file.u32_or_zero(at + 8),
             sections: Sequence::from_vec(sections),
         }
     }

@@ -17,6 +17,7 @@ use crate::functions::{ENTRY_SIZE, Function, read_functions};
 use crate::header::{IMPORT_SECTIONS, METHOD_DEF_ENTRY_POINTS, RUNTIME_FUNCTIONS, RtrHeader};
 use crate::imports::{ImportSection, check_cells_order, check_forms, read_imports};
 use crate::slots::{Slot, read_slots};
+use fixup_sigs::read_fixup_is_spellable;
 use pe_image::Pe;
 use rtr_bytes::{NoMemory, ReadRefusal, Sequence};
 use std::alloc::Global;
@@ -153,6 +154,7 @@ pub fn read_rtr(
     // Each slot's fixup has a signature that can be written.
     ensures spellable { IfOk result (λ image. All (λ slot. IsSpellable slot.fixup) image.slots) }
 {
+    read_fixup_is_spellable();
     let file = File::new(bytes, pe);
     read_image(alloc, &file, method_rows)
 }

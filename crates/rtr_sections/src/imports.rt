@@ -1,4 +1,4 @@
-//! Import records: sections of cells, and where the signatures of their slots stand.
+//! Import records: sections of cells, and where the signatures of their slots are.
 
 ghost use Rattle.std.specs.Prelude.{None, ◌≡◌, ◌+◌, ◌*◌, ◌<◌, ◌^◌, length, IfErr, IfOk, IfSome, OnOk, Some};
 ghost use Rattle.rtr_bytes.specs.Checks.{fault_or, RefusedBy};
@@ -10,7 +10,7 @@ use crate::file::File;
 use rtr_bytes::{Fault, ReadRefusal, Span, ensure};
 use std::alloc::Global;
 
-/// One import record: a section of cells.
+/// One import record: a section of cells (ReadyToRun File Format, "READYTORUN_SECTION_IMPORT_SECTIONS").
 #[derive(Clone, Copy, Debug, PartialEq, Eq)]
 pub struct ImportSection {
     /// The RVA of its first cell.
@@ -19,13 +19,13 @@ pub struct ImportSection {
     pub size: u32,
     /// Flags, of which the lowest bit is EAGER.
     pub flags: u16,
-    /// Type.
+    /// Type, as a number (ReadyToRunImportSectionType).
     pub kind: u8,
     /// EntrySize, the size of a cell in bytes.
     pub entry_size: u8,
     /// The RVA of its signatures: one RVA of 32 bits for each slot.
     pub signatures: u32,
-    /// The RVA of auxiliary data.
+    /// The RVA of auxiliary data, and 0 where there is none.
     pub auxiliary: u32,
 }
 
@@ -44,18 +44,19 @@ impl ImportSection {
         ensures { result ≡ import_at file.now at }
     {
         ImportSection {
-            rva: file.u32_at(at),
-            size: file.u32_at(at + 4),
-            flags: file.u16_at(at + 8),
+            rva: file.u32_or_zero(at),
+            size: file.u32_or_zero(at + 4),
+            flags: file.u16_or_zero(at + 8),
             kind: file.u8_at(at + 10),
             entry_size: file.u8_at(at + 11),
-            signatures: file.u32_at(at + 12),
-            auxiliary: file.u32_at(at + 16),
+            signatures: file.u32_or_zero(at + 12),
+            auxiliary: file.u32_or_zero(at + 16),
         }
     }
 
-    /// How many slots it has: one for each cell of this compiler's size.
-    pub(crate) fn slot_count(&self) -> u32
+    /// How many slots it has in an image of this compiler: one for each cell of 8 bytes. The cells of a foreign image may
+    /// have another size.
+    pub fn slot_count(&self) -> u32
         ensures count { result ≡ slot_count self.now }
         ensures few { result < 2 ^ 29 }
     {

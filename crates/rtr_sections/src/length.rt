@@ -10,9 +10,9 @@ use crate::entry_writer::highest_row;
 use crate::functions;
 use crate::header::IDENTIFIER;
 use crate::image::Image;
-use crate::imports::RECORD_SIZE;
+use crate::imports::{CELL_SIZE, RECORD_SIZE};
 use crate::slots::Slot;
-use crate::written::{CELL_SIZE, WORD_SIZE, WRITTEN_HEADER_SIZE};
+use crate::written::{WORD_SIZE, WRITTEN_HEADER_SIZE};
 use native_format::{SparseLength, lengths_decide_places, nibbles_len, uint_len};
 
 impl EntryPoint {
@@ -63,8 +63,8 @@ pub fn written_len(plan: &Image) -> u64
     ensures { (at : ℕ) → result ≡ capped (length (part_bytes plan.now at)) }
 {
     let slots = plan.slots.as_slice();
-    let imports = plan.imports.as_slice().len() as u64;
-    let functions = plan.functions.as_slice().len() as u64;
+    let imports = plan.imports.len() as u64;
+    let functions = plan.functions.len() as u64;
     let records = u64::from(WRITTEN_HEADER_SIZE) + IDENTIFIER.len() as u64;
     records
         .saturating_add(u64::from(CELL_SIZE + WORD_SIZE).saturating_mul(slots.len() as u64))

@@ -27,9 +27,9 @@ pub use functions::Function;
 pub use header::{RtrHeader, RtrSection};
 pub use image::{Image, read_rtr};
 pub use imports::ImportSection;
-pub use laws::written_files_carry_the_part;
+pub use laws::{parts_are_bounded, written_files_carry_the_part};
 pub use length::written_len;
-pub use plan::can_write_rtr;
+pub use plan::{can_write_rtr, is_well_planned};
 pub use slots::Slot;
 pub use written::{Written, write_rtr};
 

@@ -65,7 +65,7 @@ pub(crate) fn put_imports(out: &mut Vec<u8>, imports: &[ImportSection]) -> Resul
     Ok(())
 }
 
-/// Import records as they are in all but their places: their cells stand one after the other from an RVA on, and so
+/// Import records as they are in all but their places: their cells are one after the other from an RVA on, and so
 /// do their arrays of signatures.
 pub(crate) fn placed_imports(
     alloc: Global,
@@ -94,7 +94,7 @@ pub(crate) fn placed_imports(
     Ok(placed)
 }
 
-/// Appends the entries of functions, whose unwind words stand one after the other from an RVA on.
+/// Appends the entries of functions, whose unwind words are one after the other from an RVA on.
 pub(crate) fn put_functions(
     out: &mut Vec<u8>,
     functions: &[Function],

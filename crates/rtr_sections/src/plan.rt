@@ -9,14 +9,13 @@ ghost use Rattle.rtr_sections.specs.Plan.{AreInOrder, HasWrittenForm, IsLinkedIn
 use crate::entries::EntryPoint;
 use crate::functions::Function;
 use crate::header::{
-    COMPILER_IDENTIFIER, DELAY_LOAD_METHOD_CALL_THUNKS, IMPORT_SECTIONS, METHOD_DEF_ENTRY_POINTS,
-    RUNTIME_FUNCTIONS, RtrHeader,
+    COMPILER_IDENTIFIER, DELAY_LOAD_METHOD_CALL_THUNKS, IMPORT_SECTIONS, MAJOR_VERSION,
+    METHOD_DEF_ENTRY_POINTS, MINOR_VERSION, RUNTIME_FUNCTIONS, RtrHeader,
 };
 use crate::image::Image;
-use crate::imports::ImportSection;
+use crate::imports::{CELL_SIZE, ImportSection};
 use crate::length::written_len;
 use crate::slots::Slot;
-use crate::written::CELL_SIZE;
 use native_format::SlotRef;
 
 /// The highest RVA of a part.
@@ -41,8 +40,8 @@ impl RtrHeader {
     {
         match self.sections.as_slice() {
             [a, b, c, d, e] => {
-                self.major == 5
-                    && self.minor == 0
+                self.major == MAJOR_VERSION
+                    && self.minor == MINOR_VERSION
                     && [a.kind, b.kind, c.kind, d.kind, e.kind] == WRITTEN_SECTIONS
             }
             _ => false,
@@ -75,7 +74,7 @@ fn have_slots(imports: &[ImportSection], slots: usize) -> bool
 {
     let mut left = slots;
     for import in imports {
-        let count = (import.size / CELL_SIZE) as usize;
+        let count = import.slot_count() as usize;
         if left < count {
             return false;
         }
@@ -119,7 +118,7 @@ fn rows_ascend(entries: &[EntryPoint]) -> bool
     true
 }
 
-/// Whether one slot stands before another, by section and then by slot.
+/// Whether one slot is before another, by section and then by slot.
 fn precedes(last: SlotRef, next: SlotRef) -> bool
     ensures { IsTrue result ↔ Precedes last next }
 {
@@ -148,7 +147,7 @@ fn slot_exists(imports: &[ImportSection], slot: SlotRef) -> bool
     ensures { IsTrue result ↔ Names imports.now slot.section slot.slot }
 {
     let section = slot.section as usize;
-    section < imports.len() && slot.slot < imports[section].size / CELL_SIZE
+    section < imports.len() && slot.slot < imports[section].slot_count()
 }
 
 /// Whether slots exist.
@@ -164,7 +163,7 @@ impl EntryPoint {
         ensures { IsTrue result ↔ IsLinkedIn plan.now self.now }
     {
         let slots = self.fixups.as_slice();
-        (self.function as usize) < plan.functions.as_slice().len()
+        (self.function as usize) < plan.functions.len()
             && slots_ascend(slots)
             && slots_exist(plan.imports.as_slice(), slots)
     }
@@ -174,14 +173,12 @@ impl EntryPoint {
 fn are_linked(plan: &Image) -> bool
     ensures { IsTrue result ↔ All (IsLinkedIn plan.now) plan.now.entries }
 {
-    plan.entries
-        .as_slice()
-        .iter()
-        .all(|entry| entry.is_linked_in(plan))
+    plan.entries.iter().all(|entry| entry.is_linked_in(plan))
 }
 
-/// Whether the records of a plan are in themselves as `write_rtr` needs them.
-fn is_well_planned(plan: &Image) -> bool
+/// Whether the records of a plan are in themselves as [`write_rtr`](crate::write_rtr) needs them, whatever their length and
+/// the RVA. It is the condition of [`written_len`]. It takes no memory.
+pub fn is_well_planned(plan: &Image) -> bool
     ensures { IsTrue result ↔ IsWellPlanned plan.now }
 {
     let imports = plan.imports.as_slice();

@@ -10,12 +10,12 @@ use fixup_sigs::{Fixup, read_fixup};
 use rtr_bytes::NoMemory;
 use std::alloc::Global;
 
-/// A slot of an import section.
+/// A slot of an import section (ReadyToRun File Format, "Fixups").
 #[derive(Clone, Copy, Debug, PartialEq, Eq)]
 pub struct Slot {
     /// What its cell stands for.
     pub fixup: Fixup,
-    /// The cell's word in the file, lowest byte first.
+    /// The 64 bits of the cell in the file, lowest byte first.
     pub word: u64,
 }
 
@@ -32,7 +32,7 @@ fn fixup_at(bytes: &[u8], at: u32) -> Option<Fixup>
 pub(crate) fn named_fixup(file: &File<'_>, place: u32) -> Option<Fixup>
     ensures { result ≡ named_fixup file.now place }
 {
-    let at = file.place_of(file.u32_at(place), 1)?;
+    let at = file.place_of(file.u32_or_zero(place), 1)?;
     fixup_at(file.bytes(), at)
 }
 

@@ -7,7 +7,7 @@ use rtr_bytes::{Sequence, Span};
 use std::alloc::{AllocError, Global};
 use std::test::Fail;
 
-/// Where the part stands.
+/// Where the part is.
 const AT: u32 = 0x10000;
 
 /// The parts, one after the other: the cells' words, the header with its section records, the import records, the arrays

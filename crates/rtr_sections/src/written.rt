@@ -3,6 +3,7 @@
 ghost use Rattle.std.specs.Prelude.{◌≡◌, ℕ, List, ◌+◌, ◌*◌, ◌-◌, ◌<◌, ◌≤◌, ◌^◌, ◌++◌, length, map, All, IfOk, OnOk, None};
 ghost use Rattle.std.specs.List.{flat_map};
 ghost use Rattle.rtr_bytes.specs.Checks.{first_fault};
+ghost use Rattle.rtr_sections.specs.Bounds.{length_bound};
 ghost use Rattle.rtr_sections.specs.Header.{identifier, native_at};
 ghost use Rattle.rtr_sections.specs.Image.{image_of, rtr_checks};
 ghost use Rattle.rtr_sections.specs.PartPlaces.{ArePlaces, ranged};
@@ -13,15 +14,17 @@ ghost use Rattle.rtr_sections.specs.Written.{Carries, asked_of, back_image, shap
 use crate::entry_writer::write_entries;
 use crate::functions::{ENTRY_SIZE, Function};
 use crate::header::{
-    COMPILER_IDENTIFIER, IDENTIFIER, IMPORT_SECTIONS, METHOD_DEF_ENTRY_POINTS, RUNTIME_FUNCTIONS,
-    RtrHeader, RtrSection, SIGNATURE,
+    COMPILER_IDENTIFIER, IDENTIFIER, IMPORT_SECTIONS, MAJOR_VERSION, METHOD_DEF_ENTRY_POINTS,
+    MINOR_VERSION, RUNTIME_FUNCTIONS, RtrHeader, RtrSection, SIGNATURE,
 };
 use crate::image::Image;
-use crate::imports::{ImportSection, RECORD_SIZE};
+use crate::imports::{CELL_SIZE, ImportSection, RECORD_SIZE};
+use crate::laws::parts_are_bounded;
 use crate::length::written_len;
 use crate::pieces::{
     Signatures, placed_imports, put_cells, put_functions, put_imports, put_unwinds,
 };
+use fixup_sigs::written_fixup_is_read;
 use native_format::written_is_read;
 use rtr_bytes::{NoMemory, Span};
 use std::alloc::Global;
@@ -29,7 +32,7 @@ use std::alloc::Global;
 /// A written ReadyToRun part.
 #[derive(Debug, Drop)]
 pub struct Written {
-    /// The bytes, which stand at the RVA that they were written for.
+    /// The bytes, which belong at the RVA that they were written for.
     pub bytes: Vec<u8>,
     /// The RVA and the size of the header, with its section records.
     pub header: Span,
@@ -37,10 +40,10 @@ pub struct Written {
     pub cells: Vec<Span>,
 }
 
+/// NumberOfSections of a written header.
+const NUMBER_OF_SECTIONS: u32 = 5;
 /// The bytes of the header with its five section records.
 pub(crate) const WRITTEN_HEADER_SIZE: u32 = 76;
-/// The bytes of a cell.
-pub(crate) const CELL_SIZE: u32 = 8;
 /// The bytes of an RVA, and of an unwind word.
 pub(crate) const WORD_SIZE: u32 = 4;
 
@@ -62,9 +65,9 @@ impl PartPlaces {
         requires { at + 12 * length plan.now.slots + 20 * length plan.now.imports + 12 * length plan.now.functions + 90 < 2 ^ 32 }
         ensures { ArePlaces result at (parts_of plan.now) }
     {
-        let slot_count = plan.slots.as_slice().len() as u32;
-        let import_count = plan.imports.as_slice().len() as u32;
-        let function_count = plan.functions.as_slice().len() as u32;
+        let slot_count = plan.slots.len() as u32;
+        let import_count = plan.imports.len() as u32;
+        let function_count = plan.functions.len() as u32;
         let header = at + CELL_SIZE * slot_count;
         let imports = header + WRITTEN_HEADER_SIZE;
         let arrays = imports + RECORD_SIZE * import_count;
@@ -136,9 +139,10 @@ fn put_header(
     ensures ranges { OnOk result (All (λ s. (s.rva < 2 ^ 32) × (s.size < 2 ^ 32)) header.now.sections) }
 {
     out.extend_from_slice(&SIGNATURE.to_le_bytes())?;
-    out.extend_from_slice(&[5, 0, 0, 0])?;
+    out.extend_from_slice(&MAJOR_VERSION.to_le_bytes())?;
+    out.extend_from_slice(&MINOR_VERSION.to_le_bytes())?;
     out.extend_from_slice(&header.flags.to_le_bytes())?;
-    out.extend_from_slice(&[5, 0, 0, 0])?;
+    out.extend_from_slice(&NUMBER_OF_SECTIONS.to_le_bytes())?;
     put_sections(out, header.sections.as_slice(), places, entries)
 }
 
@@ -212,6 +216,8 @@ pub fn write_rtr(alloc: Global, plan: &Image, at: u32) -> Result<Written, NoMemo
     ensures header { IfOk result (λ w. w.header ≡ header_span plan.now at) }
     ensures cells { IfOk result (λ w. w.cells.items ≡ cell_spans plan.now at) }
     ensures small { IfOk result (λ w. length w.bytes.items < 2 ^ 24) }
+    // The counts of the plan's records bound the length.
+    ensures bounded { IfOk result (λ w. length w.bytes.items ≤ length_bound plan.now) }
 
     // The plan's places, and the sizes of the sections that the writer fills, aren't read.
     ensures unread { IfOk result (λ w. (other : Image) → asked_of other ≡ asked_of plan.now → w.bytes.items ≡ part_bytes other at) }
@@ -229,6 +235,8 @@ pub fn write_rtr(alloc: Global, plan: &Image, at: u32) -> Result<Written, NoMemo
         → image_of file ≡ back_image plan.now at (native_at file)) }
 {
     written_is_read();
+    written_fixup_is_read();
+    parts_are_bounded();
     let places = PartPlaces::of(plan, at);
     let signatures = Signatures::of(alloc, plan.slots.as_slice(), places.signatures)?;
     let entries = write_entries(alloc, plan.entries.as_slice())?;

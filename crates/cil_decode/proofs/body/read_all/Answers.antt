@@ -11,7 +11,9 @@ returns-then-is_empty-clause-refused c = none_read c.args.code.now (grind (arith
 
 pub returns-in_err-instr-clause-refused : goal.returns-in_err-instr-clause-refused
 returns-in_err-instr-clause-refused c =
-    let refused = refused_so c.args.code.now c.instructions.list.items c.instructions.at c.in_err-instr.field-0.0 c.instructions.invariant.follow (omega arith) c.in_err-instr.ensures.refused in
+    let refused =
+    refused_so c.args.code.now c.instructions.list.items c.instructions.at c.in_err-instr.field-0.0
+    c.instructions.invariant.follow (omega arith) c.in_err-instr.ensures.refused in
     search (rules, refused)
 
 pub instructions-smaller : goal.instructions-smaller
@@ -25,7 +27,9 @@ pub instructions-preserved : goal.instructions-preserved
 instructions-preserved c =
     let size = c.size-at.ensures in
     let inside = c.in_ok-instr.ensures.inside in
-    let followed = follow_more c.args.code.now 0 c.instructions.at c.instructions.list.items c.in_ok-instr.instr c.instructions.invariant.follow c.in_ok-instr.ensures.read in
+    let followed =
+    follow_more c.args.code.now 0 c.instructions.at c.instructions.list.items c.in_ok-instr.instr
+    c.instructions.invariant.follow c.in_ok-instr.ensures.read in
     record {
       within = omega (arith, size, inside);
       follow =

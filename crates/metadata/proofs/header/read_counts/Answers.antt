@@ -29,7 +29,8 @@ loop-table-preserved c =
     count_is bytes at table valid place c.count_of.result c.requires.valid c.loop-table.invariant.place_is
     (c.count_of.ensures ∙ ap (λ (b : Bool). cond b (u32_of bytes place) 0) there) in
     record {
-      rows_are = c.in_ok-push.ensures.items ∙ counts_more bytes at table c.count_of.result c.loop-table.rows.items c.loop-table.invariant.rows_are count;
+      rows_are = c.in_ok-push.ensures.items
+          ∙ counts_more bytes at table c.count_of.result c.loop-table.rows.items c.loop-table.invariant.rows_are count;
       place_is =
           place_more bytes at table valid place c.count_size-place.result c.requires.valid c.loop-table.invariant.place_is
           (c.count_size-place.ensures ∙ ap (λ (b : Bool). cond b 4 0) there);

@@ -17,10 +17,12 @@ returns-in_err-ensure-clause-fault c =
     let name_is : c.header.inside.name.now ≡ item.name = ap (λ (h : StreamHeader). h.name) c.header.view_is in
     let at_is : c.header.inside.at ≡ item.at = ap (λ (h : StreamHeader). h.at) c.header.view_is in
     let taken : is_taken names item.name ≡ true =
-    ap (λ (n : List ℕ). is_taken names n) (sym name_is) ∙ not_false (is_taken names c.header.inside.name.now) (sym c.in_ok-free.ensures.free ∙ c.in_err-ensure.ensures.fault.0) in
+    ap (λ (n : List ℕ). is_taken names n) (sym name_is)
+    ∙ not_false (is_taken names c.header.inside.name.now) (sym c.in_ok-free.ensures.free ∙ c.in_err-ensure.ensures.fault.0) in
     let here : first_repeated names (drop c.loop-header.header-index c.args.headers.now) ≡ Some item.at =
     repeated_here names c.args.headers.now c.loop-header.header-index item c.loop-header-test.true c.header-item.is taken in
-    let all : first_repeated [] c.args.headers.now ≡ Some c.header.inside.at = sym c.loop-header.invariant ∙ here ∙ ap (λ (n : ℕ). Some n) (sym at_is) in
+    let all : first_repeated [] c.args.headers.now ≡ Some c.header.inside.at = sym c.loop-header.invariant ∙ here
+    ∙ ap (λ (n : ℕ). Some n) (sym at_is) in
     let fault = c.in_err-ensure.ensures.fault.1 in
     search (rules, all, fault)
 
@@ -30,7 +32,8 @@ loop-header-preserved c =
     let names = c.loop-header.names in
     let name_is : c.header.inside.name.now ≡ item.name = ap (λ (h : StreamHeader). h.name) c.header.view_is in
     let free : is_taken names item.name ≡ false =
-    ap (λ (n : List ℕ). is_taken names n) (sym name_is) ∙ not_true (is_taken names c.header.inside.name.now) (sym c.in_ok-free.ensures.free ∙ c.in_ok-ensure.ensures.holds) in
+    ap (λ (n : List ℕ). is_taken names n) (sym name_is)
+    ∙ not_true (is_taken names c.header.inside.name.now) (sym c.in_ok-free.ensures.free ∙ c.in_ok-ensure.ensures.holds) in
     repeated_more names c.insert.new.self c.args.headers.now c.loop-header.header-index item c.loop-header-test.true c.header-item.is free
     (λ other. c.in_ok-free.ensures.taken other ∙ ap (λ (n : List ℕ). bytes_eq n other || is_taken names other) name_is)
     ∙ c.loop-header.invariant

@@ -55,5 +55,6 @@ returns-clause-headers c =
     let none : c.args.root.stream_count - c.headers._i ≡ 0 = omega arith in
     let items = c.headers.headers.items in
     sym (append-nil items)
-    ∙ ap (λ (t : List StreamHeader). items ++ t) (sym (ap (headers_from c.args.bytes.now c.args.end c.headers.at) none ∙ none_left c.args.bytes.now c.args.end c.headers.at))
+    ∙ ap (λ (t : List StreamHeader). items ++ t)
+    (sym (ap (headers_from c.args.bytes.now c.args.end c.headers.at) none ∙ none_left c.args.bytes.now c.args.end c.headers.at))
     ∙ c.headers.invariant.whole

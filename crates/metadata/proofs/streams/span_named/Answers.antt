@@ -7,7 +7,8 @@ use Rattle.metadata.proofs.streams.span_named.Goals as goal
 pub overflow_add-result : goal.overflow_add-result
 overflow_add-result c =
     let h = c.in-Some.header.now in
-    let found : is_inside c.args.span h ≡ true = found_inside c.args.span c.args.name.now c.args.headers.now h c.requires.inside (sym c.in-Some.ensures) in
+    let found : is_inside c.args.span h ≡ true =
+    found_inside c.args.span c.args.name.now c.args.headers.now h c.requires.inside (sym c.in-Some.ensures) in
     let fits : h.offset + h.size ≤ c.args.span.len = grind (arith, nat_tests, found) in
     let offset_is : c.header.inside.offset ≡ h.offset = ap (λ (k : StreamHeader). k.offset) c.header.view_is in
     let reach = c.requires.reach in
@@ -16,7 +17,8 @@ overflow_add-result c =
 pub returns-in-Some-clause-inside : goal.returns-in-Some-clause-inside
 returns-in-Some-clause-inside c =
     let h = c.in-Some.header.now in
-    let found : is_inside c.args.span h ≡ true = found_inside c.args.span c.args.name.now c.args.headers.now h c.requires.inside (sym c.in-Some.ensures) in
+    let found : is_inside c.args.span h ≡ true =
+    found_inside c.args.span c.args.name.now c.args.headers.now h c.requires.inside (sym c.in-Some.ensures) in
     let fits : h.offset + h.size ≤ c.args.span.len = grind (arith, nat_tests, found) in
     let offset_is : c.header.inside.offset ≡ h.offset = ap (λ (k : StreamHeader). k.offset) c.header.view_is in
     let size_is : c.header.inside.size ≡ h.size = ap (λ (k : StreamHeader). k.size) c.header.view_is in

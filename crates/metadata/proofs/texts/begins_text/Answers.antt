@@ -12,4 +12,5 @@ returns-then-first-le-LAST_ASCII c =
     ∙ sym (begins_at_ascii c.args.heap.now c.args.at c.requires.place (omega arith) (omega arith))
 
 pub returns-else-first-le-LAST_ASCII : goal.returns-else-first-le-LAST_ASCII
-returns-else-first-le-LAST_ASCII c = c.begins_by_lead.ensures ∙ sym (begins_at_lead c.args.heap.now c.args.at c.requires.place (omega arith))
+returns-else-first-le-LAST_ASCII c =
+    c.begins_by_lead.ensures ∙ sym (begins_at_lead c.args.heap.now c.args.at c.requires.place (omega arith))

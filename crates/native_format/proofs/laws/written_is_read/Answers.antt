@@ -9,7 +9,8 @@ use Rattle.native_format.proofs.laws.written_is_read.Goals as goal
 pub returns : goal.returns
 returns c = record {
   integers = λ value before rest h. uint_written before rest value h;
-  lists = λ list bytes rest at ascending fit is. is_read bytes at list fit (subst (λ (t : List ℕ). BeginsWithList t list) (sym is) (is_written list rest ascending));
+  lists = λ list bytes rest at ascending fit is. is_read bytes at list fit
+      (subst (λ (t : List ℕ). BeginsWithList t list) (sym is) (is_written list rest ascending));
   arrays = holds;
   some = some_bytes;
 }

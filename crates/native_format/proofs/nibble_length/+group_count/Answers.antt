@@ -1,4 +1,4 @@
-use Rattle.std.proofs.Common.{arith, sym, ◌∙◌, ap}
+use Rattle.std.proofs.Common.{arith, sym}
 use Rattle.native_format.proofs.NibbleLaws.{group_one, group_more, groups_few}
 use Rattle.native_format.proofs.nibble_length.+group_count.Goals as goal
 

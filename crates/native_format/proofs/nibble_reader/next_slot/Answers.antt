@@ -1,7 +1,8 @@
 use Rattle.std.proofs.Common.{◌≡◌, ap, refl, ◌∙◌, ◌∷◌, arith}
 use Rattle.native_format.specs.Nibbles.{slots_behind, at_slot}
 use Rattle.native_format.specs.NibbleSteps.{numbers_from}
-use Rattle.native_format.proofs.SlotLaws.{no_distance, slot_sum_wide, no_section_distance, section_sum_wide, no_first_slot, ends_here, behind_slot, behind_section, reads, same_two}
+use Rattle.native_format.proofs.SlotLaws.{no_distance, slot_sum_wide, no_section_distance, section_sum_wide, no_first_slot, ends_here}
+use Rattle.native_format.proofs.SlotLaws.{behind_slot, behind_section, reads, same_two}
 use Rattle.native_format.proofs.nibble_reader.next_slot.Goals as goal
 
 pub returns-in_err-distance : goal.returns-in_err-distance

@@ -1,4 +1,4 @@
-use Rattle.std.proofs.Common.{sym, arith}
+use Rattle.std.proofs.Common.{sym}
 use Rattle.native_format.proofs.SparseLengthLaws.{fork_one, fork_two, fork_three, fork_four, fork_five}
 use Rattle.native_format.proofs.sparse_length.fork_len.Goals as goal
 

@@ -11,8 +11,11 @@ loop-i-preserved c =
     record {
       wide = length-set c.loop-i.slots c.loop-i.i c.next_slot.result.0 ∙ c.loop-i.invariant.wide;
       rest = subst (λ n. AreElements n (2 ^ 32) c.next_slot.result.1.now) next c.next_slot.ensures.elements;
-      others = subst (λ n. SameFrom n c.args.elements.now c.next_slot.result.1.now) next (same_on c.args.elements.now c.loop-i.rest.now c.next_slot.result.1.now (c.args.first + c.loop-i.i) (c.args.first + c.loop-i.i + 1) (omega arith) c.loop-i.invariant.others c.next_slot.ensures.others);
-      slots = set_slot c.loop-i.slots c.args.elements.now c.loop-i.rest.now c.args.first c.loop-i.i c.next_slot.result.0 (omega (arith, c.loop-i.invariant.wide)) c.next_slot.ensures.slot c.loop-i.invariant.others c.loop-i.invariant.slots;
+      others = subst (λ n. SameFrom n c.args.elements.now c.next_slot.result.1.now) next
+          (same_on c.args.elements.now c.loop-i.rest.now c.next_slot.result.1.now (c.args.first + c.loop-i.i)
+          (c.args.first + c.loop-i.i + 1) (omega arith) c.loop-i.invariant.others c.next_slot.ensures.others);
+      slots = set_slot c.loop-i.slots c.args.elements.now c.loop-i.rest.now c.args.first c.loop-i.i c.next_slot.result.0
+          (omega (arith, c.loop-i.invariant.wide)) c.next_slot.ensures.slot c.loop-i.invariant.others c.loop-i.invariant.slots;
     }
 
 pub returns-clause-slots : goal.returns-clause-slots

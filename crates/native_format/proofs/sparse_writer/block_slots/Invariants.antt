@@ -4,7 +4,7 @@ use Rattle.native_format.specs.SparseBytes.{AreElements, content_by_index}
 use Rattle.native_format.specs.SparseSteps.{SameFrom}
 use Rattle.native_format.proofs.sparse_writer.block_slots.Given as goal
 
--- the slots so far, and that the rest has what is at or behind the next index
+-- the slots so far, and that the rest has what is at or after the next index
 abbrev pub invariant-loop-i : goal.invariant-loop-i
 invariant-loop-i l = record {
   wide : length l.slots ≡ 16;

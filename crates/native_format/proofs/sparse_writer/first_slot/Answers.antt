@@ -7,7 +7,11 @@ returns-in_err-first c = rw c.from_residual.ensures (sym (none_left c.args.eleme
 
 pub returns-then-first-index : goal.returns-then-first-index
 returns-then-first-index c =
-    ap (λ content. Some content) c.as_slice.ensures ∙ sym (first_found c.args.elements.now c.in_ok-first.first.now c.args.index (sym c.in_ok-first.ensures.value) c.if-first-index.true)
+    ap (λ content. Some content) c.as_slice.ensures
+    ∙ sym (first_found c.args.elements.now c.in_ok-first.first.now c.args.index (sym c.in_ok-first.ensures.value) c.if-first-index.true)
 
 pub returns-else-first-index : goal.returns-else-first-index
-returns-else-first-index c = sym (first_other c.args.elements.now c.in_ok-first.first.now c.args.index _ (sym c.in_ok-first.ensures.value) c.requires c.if-first-index.false)
+returns-else-first-index c =
+    sym
+    (first_other c.args.elements.now c.in_ok-first.first.now c.args.index _ (sym c.in_ok-first.ensures.value) c.requires
+    c.if-first-index.false)

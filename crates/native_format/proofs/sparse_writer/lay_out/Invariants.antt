@@ -3,7 +3,7 @@ use Rattle.native_format.specs.SparseBytes.{AreElements, blocks, index_bytes, jo
 use Rattle.native_format.specs.SparseSteps.{SameFrom}
 use Rattle.native_format.proofs.sparse_writer.lay_out.Given as goal
 
--- the blocks so far with their entries, and that the rest has what is behind them
+-- the blocks so far with their entries, and that the rest has what is after them
 abbrev pub invariant-loop-k : goal.invariant-loop-k
 invariant-loop-k l = record {
   rest : AreElements (16 * l.k) (2 ^ 32) l.rest;

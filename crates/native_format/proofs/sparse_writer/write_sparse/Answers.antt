@@ -26,7 +26,8 @@ overflow_add-count c = let parts = parts_small c.args.count c.args.elements.now 
 pub returns-clause-exact : goal.returns-clause-exact
 returns-clause-exact c =
     let n : c.div_ceil.result ≡ blocks_of c.args.count = omega arith in
-    whole_is c.args.count c.div_ceil.result c.args.elements.now c.write_uint.new.out.items c.extend_from_slice.new.self.items c.extend_from_slice-2.new.self.items c.in_ok-index.index.items c.in_ok-index.body.items n
+    whole_is c.args.count c.div_ceil.result c.args.elements.now c.write_uint.new.out.items c.extend_from_slice.new.self.items
+    c.extend_from_slice-2.new.self.items c.in_ok-index.index.items c.in_ok-index.body.items n
     (c.in_ok-write_uint.ensures.ok ∙ ap (λ bytes. bytes ++ short_uint (4 * c.args.count + 2)) c.new-out.ensures.items)
     (c.in_ok-extend_from_slice.ensures.items ∙ ap (λ bytes. c.write_uint.new.out.items ++ bytes) c.deref.ensures.value)
     (c.in_ok-extend_from_slice-2.ensures.items ∙ ap (λ bytes. c.extend_from_slice.new.self.items ++ bytes) c.deref-2.ensures.value)
@@ -34,4 +35,5 @@ returns-clause-exact c =
 
 pub returns-clause-holds : goal.returns-clause-holds
 returns-clause-holds c = λ rest.
-    subst (λ bytes. HoldsElements (bytes ++ rest) c.args.count c.args.elements.now) (sym (returns-clause-exact c)) (holds c.args.count c.args.elements.now rest c.requires.elements c.requires.small)
+    subst (λ bytes. HoldsElements (bytes ++ rest) c.args.count c.args.elements.now) (sym (returns-clause-exact c))
+    (holds c.args.count c.args.elements.now rest c.requires.elements c.requires.small)

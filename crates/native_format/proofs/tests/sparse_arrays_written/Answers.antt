@@ -12,7 +12,8 @@ pub write_sparse-requires-2-clause-small : goal.write_sparse-requires-2-clause-s
 write_sparse-requires-2-clause-small g c = rw (c.in_ok-element-2.ensures, c.in_ok-element-3.ensures) small_two
 
 pub write_sparse-requires-2-clause-elements : goal.write_sparse-requires-2-clause-elements
-write_sparse-requires-2-clause-elements g c = rw (c.in_ok-element-2.ensures, c.in_ok-element-3.ensures) (omega arith, omega arith, (omega arith, omega arith, tt))
+write_sparse-requires-2-clause-elements g c =
+    rw (c.in_ok-element-2.ensures, c.in_ok-element-3.ensures) (omega arith, omega arith, (omega arith, omega arith, tt))
 
 pub write_sparse-requires-3-clause-small : goal.write_sparse-requires-3-clause-small
 write_sparse-requires-3-clause-small g c = rw c.in_ok-element-4.ensures small_late

@@ -66,7 +66,12 @@ values_are c =
 
 -- the file has all that it promises
 file_written : (c : goal.After-join) (out : List ℕ)
-    → out ≡ file_of (record { coff = c.of.result; optional = c.of-2.result; resource_table = c.of-copied.result.resource_table; cli_header = record { start = c.args.cli_at; len = 72 } })
+    → out ≡ file_of (record {
+      coff = c.of.result;
+      optional = c.of-2.result;
+      resource_table = c.of-copied.result.resource_table;
+      cli_header = record { start = c.args.cli_at; len = 72 };
+    })
     (placed_from (raw_start c.sections-sections.result.now) (c.sections-sections.result.now ++ c.after-new.result.dat ∷
     c.after-new.result.cod ∷ []))
     (raw_parts c.sections-sections.result.now c.args.bytes.now c.args.dat.now c.args.cod.now)

@@ -1,16 +1,14 @@
 use Rattle.std.proofs.Common.{◌≡◌, ◌+◌, ◌<◌, ◌∙◌, Some, Ok, Err, None, refl, sym, arith}
 use Rattle.native_format.specs.Sparse.{element_of}
 use Rattle.rtr_sections.specs.Entries.{cut_place}
+use Rattle.rtr_sections.proofs.EntriesRead.{fault_within}
 use Rattle.rtr_sections.proofs.Numbered.{first_bad-step, first_bad-found, first_bad-end}
-use Rattle.native_format.proofs.SparseWithin.{array_at_whole, cut_within}
 use Rattle.rtr_sections.proofs.entries.check_paths.Goals as goal
 
 pub overflow_add-result : goal.overflow_add-result
 overflow_add-result c =
-    let a = c.args.array.now in
-    let there =
-    cut_within a c.loop-index.index c.in-Err.cut (array_at_whole a.bytes 0 a c.requires.whole) (sym c.get.ensures ∙ c.in-Err.is) in
-    omega arith
+    let there = fault_within _ c.get.result c.in-Err.cut c.in-Err.is c.get.ensures.within in
+    omega (arith, there)
 
 pub returns-in-Err-clause-fault : goal.returns-in-Err-clause-fault
 returns-in-Err-clause-fault c =
@@ -18,7 +16,7 @@ returns-in-Err-clause-fault c =
     let i = c.loop-index.index in
     let start = c.args.part.start in
     let below : i < a.count = omega arith in
-    let cut : element_of a i ≡ Err c.in-Err.cut = sym c.get.ensures ∙ c.in-Err.is in
+    let cut : element_of a i ≡ Err c.in-Err.cut = sym c.get.ensures.exact ∙ c.in-Err.is in
     let place : cut_place start a i ≡ Some (start + c.in-Err.cut.place) = rw cut refl in
     rw (sym c.loop-index.invariant ∙ first_bad-found (cut_place start a) a.count i (start + c.in-Err.cut.place) below place) refl
 
@@ -28,7 +26,7 @@ loop-index-preserved c =
     let i = c.loop-index.index in
     let start = c.args.part.start in
     let below : i < a.count = omega arith in
-    let there : element_of a i ≡ Ok c.in_default.field-0 = sym c.get.ensures ∙ c.in_default.is in
+    let there : element_of a i ≡ Ok c.in_default.field-0 = sym c.get.ensures.exact ∙ c.in_default.is in
     let none : cut_place start a i ≡ None = rw there refl in
     sym (first_bad-step (cut_place start a) a.count i below none) ∙ c.loop-index.invariant
 

@@ -6,7 +6,8 @@ use Rattle.rtr_sections.proofs.Numbered.{present-more, present-none}
 use Rattle.rtr_sections.proofs.EntriesRead.{entry_some, entry_none}
 use Rattle.rtr_sections.proofs.EntryHeads.{entry_by_head}
 use Rattle.rtr_sections.proofs.entries.read_all.Goals as goal
-use Rattle.rtr_sections.proofs.entries.read_all.Goals.{in-Some+in_ok-entry+in-Some-2+in_ok-push, in-Some+in_ok-entry+in_default-2, in_default}
+use Rattle.rtr_sections.proofs.entries.read_all.Goals.{in-Some+in_ok-entry+in-Some-2+in_ok-push, in-Some+in_ok-entry+in_default-2}
+use Rattle.rtr_sections.proofs.entries.read_all.Goals.{in_default}
 
 pub loop-index-preserved : goal.loop-index-preserved
 loop-index-preserved c =

@@ -54,11 +54,13 @@ returns-clause-fault c =
     let t : IsTable c.args.file.now c.args.at c.args.sections.now =
     record { native = c.requires.native; here = c.requires.at; are = c.requires.sections } in
     MatchResult-weaker c.check_sizes.result c.check_sizes.ensures.fault (λ _ _. tt)
-    (λ f told. refused_sizes c.args.file.now c.args.at c.args.sections.now f t c.in_ok-check_order.ensures.ok c.in_ok-check_ranges.ensures.ok told)
+    (λ f told. refused_sizes c.args.file.now c.args.at c.args.sections.now f t c.in_ok-check_order.ensures.ok
+    c.in_ok-check_ranges.ensures.ok told)
 
 pub returns-clause-ok : goal.returns-clause-ok
 returns-clause-ok c =
     let t : IsTable c.args.file.now c.args.at c.args.sections.now =
     record { native = c.requires.native; here = c.requires.at; are = c.requires.sections } in
     MatchResult-weaker c.check_sizes.result c.check_sizes.ensures.ok
-    (λ _ whole. none_fails c.args.file.now c.args.at c.args.sections.now t c.in_ok-check_order.ensures.ok c.in_ok-check_ranges.ensures.ok whole) (λ _ _. tt)
+    (λ _ whole. none_fails c.args.file.now c.args.at c.args.sections.now t c.in_ok-check_order.ensures.ok c.in_ok-check_ranges.ensures.ok
+    whole) (λ _ _. tt)

@@ -1,4 +1,4 @@
-use Rattle.std.proofs.Common.{◌≡◌, ◌+◌, ◌*◌, ◌≤◌, drop, length}
+use Rattle.std.proofs.Common.{◌≡◌, ◌+◌, ◌*◌, ◌≤◌, drop}
 use Rattle.rtr_sections.specs.Listed.{first_failing}
 use Rattle.rtr_sections.specs.Header.{has_whole_imports}
 use Rattle.rtr_sections.proofs.header.check_sizes.Given as goal

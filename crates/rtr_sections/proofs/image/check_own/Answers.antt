@@ -6,7 +6,7 @@ use Rattle.rtr_bytes.specs.declared.fault.ReadRefusal.TheVariants as refusals
 use Rattle.rtr_bytes.specs.Checks.{fault_or, RefusedBy}
 use Rattle.rtr_sections.specs.declared.imports.ImportSection.{ImportSection}
 use Rattle.rtr_sections.specs.Header.{part_of}
-use Rattle.rtr_sections.specs.Imports.{first_bad_of, foreign_import, imports_in, out_of_order}
+use Rattle.rtr_sections.specs.Imports.{first_bad_of, imports_in}
 use Rattle.rtr_sections.specs.Functions.{bad_function, function_count}
 use Rattle.rtr_sections.specs.Entries.{bad_array, first_cut, first_unlinked}
 use Rattle.rtr_sections.specs.EntryHeads.{first_unlinked_in}
@@ -88,7 +88,8 @@ returns-in_err-check_entries-clause-malformed c =
     let functions = ap (bad_function bytes) (sym c.part-function_part.ensures.part) ∙ c.in_ok-functions.ensures.ok in
     let P : Option Fault → Type 0 = λ first. RefusedBy first c.in_err-check_entries.field-0.0 in
     let entries =
-    entries_are rows bytes c.args.imports.now c.part-entry_part.result c.part-function_part.result c.requires.imports c.part-entry_part.ensures.part c.part-function_part.ensures.part in
+    entries_are rows bytes c.args.imports.now c.part-entry_part.result c.part-function_part.result c.requires.imports
+    c.part-entry_part.ensures.part c.part-function_part.ensures.part in
     rw (p.1, p.2, own_are rows bytes c.requires.native c.requires.own)
     (bad_entries (answers_of rows bytes) c.in_err-check_entries.field-0.0 (forms ∙ c.in_ok-check_forms.ensures.ok) slots functions
     (subst P entries c.in_err-check_entries.ensures.fault))
@@ -109,7 +110,8 @@ returns-in_err-check_cells_order-clause-malformed c =
     let forms = forms_of bytes imports c.part-import_part.result (part_of bytes 101) c.part-import_part.ensures.part c.requires.imports in
     let cells = cells_of bytes imports c.part-import_part.result (part_of bytes 101) c.part-import_part.ensures.part c.requires.imports in
     let entry =
-    entry_is bytes imports c.part-entry_part.result c.part-function_part.result c.requires.imports c.part-entry_part.ensures.part c.part-function_part.ensures.part in
+    entry_is bytes imports c.part-entry_part.result c.part-function_part.result c.requires.imports c.part-entry_part.ensures.part
+    c.part-function_part.ensures.part in
     let all : AllBut (answers_of rows bytes) = record {
       form = forms ∙ c.in_ok-check_forms.ensures.ok;
       slot = ap (first_bad_of bytes) (sym c.requires.imports) ∙ c.in_ok-check_slots.ensures.ok;
@@ -130,7 +132,8 @@ returns-clause-well_formed c =
     let forms = forms_of bytes imports c.part-import_part.result (part_of bytes 101) c.part-import_part.ensures.part c.requires.imports in
     let cells = cells_of bytes imports c.part-import_part.result (part_of bytes 101) c.part-import_part.ensures.part c.requires.imports in
     let entry =
-    entry_is bytes imports c.part-entry_part.result c.part-function_part.result c.requires.imports c.part-entry_part.ensures.part c.part-function_part.ensures.part in
+    entry_is bytes imports c.part-entry_part.result c.part-function_part.result c.requires.imports c.part-entry_part.ensures.part
+    c.part-function_part.ensures.part in
     let all : AllBut (answers_of rows bytes) = record {
       form = forms ∙ c.in_ok-check_forms.ensures.ok;
       slot = ap (first_bad_of bytes) (sym c.requires.imports) ∙ c.in_ok-check_slots.ensures.ok;

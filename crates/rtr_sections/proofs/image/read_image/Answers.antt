@@ -28,7 +28,8 @@ returns-in_err-functions-clause-malformed c =
     let placed : unplaced_cells bytes (part_of bytes 101) ≡ None = ap (unplaced_cells bytes) (sym c.part-import_part.ensures.part)
     ∙ c.in_ok-imports.ensures.ok in
     rw (p.1, p.2)
-    (refused_own c.args.method_rows bytes c.in_err-functions.field-0.0 c.requires.native c.in_ok-header.ensures.well_formed placed c.in_err-functions.ensures.malformed)
+    (refused_own c.args.method_rows bytes c.in_err-functions.field-0.0 c.requires.native c.in_ok-header.ensures.well_formed placed
+    c.in_err-functions.ensures.malformed)
 
 pub returns-then-is_own-clause-well_formed : goal.returns-then-is_own-clause-well_formed
 returns-then-is_own-clause-well_formed c =

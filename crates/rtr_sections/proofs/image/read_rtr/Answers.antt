@@ -1,4 +1,4 @@
-use Rattle.std.proofs.Common.{◌≡◌, ℕ, List, Result, None, IfErr, IfOk, OnOk, subst}
+use Rattle.std.proofs.Common.{◌≡◌, ℕ, List, None, IfErr, IfOk, OnOk, subst, arith}
 use Rattle.std.proofs.lemmas.Result.{IfOk-weaker}
 use Rattle.rtr_bytes.specs.declared.fault.ReadRefusal.{ReadRefusal}
 use Rattle.rtr_bytes.specs.Checks.{first_fault, RefusedBy}
@@ -35,5 +35,6 @@ returns-clause-own c =
 pub returns-clause-spellable : goal.returns-clause-spellable
 returns-clause-spellable c =
     let P : List ℕ → Type 0 = λ b. IfOk c.read_image.result (λ (image : Image). image ≡ image_of b) in
-    IfOk-weaker c.read_image.result _ _ (λ image e. image_spellable c.args.bytes.now image e)
+    IfOk-weaker c.read_image.result _ _ (λ image e.
+    image_spellable c.read_fixup_is_spellable.ensures c.args.bytes.now image (λ i. omega (arith, c.type_inv.bytes i)) e)
     (subst P c.new-file.ensures c.read_image.ensures.image)

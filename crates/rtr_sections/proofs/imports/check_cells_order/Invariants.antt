@@ -1,4 +1,4 @@
-use Rattle.std.proofs.Common.{◌≡◌, ◌+◌, ◌*◌, ◌≤◌, ◌<◌, ◌^◌, drop, length}
+use Rattle.std.proofs.Common.{◌≡◌, ◌+◌, ◌*◌, ◌≤◌, ◌<◌, ◌^◌, drop}
 use Rattle.rtr_sections.specs.Listed.{first_overlap}
 use Rattle.rtr_sections.proofs.imports.check_cells_order.Given as goal
 

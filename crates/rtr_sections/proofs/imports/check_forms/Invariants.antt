@@ -1,4 +1,4 @@
-use Rattle.std.proofs.Common.{◌≡◌, ◌+◌, ◌*◌, ◌≤◌, drop, length}
+use Rattle.std.proofs.Common.{◌≡◌, ◌+◌, ◌*◌, ◌≤◌, drop}
 use Rattle.rtr_sections.specs.Listed.{first_failing}
 use Rattle.rtr_sections.specs.Imports.{is_own_import}
 use Rattle.rtr_sections.proofs.imports.check_forms.Given as goal

@@ -14,7 +14,9 @@ loop-slot-preserved c =
     let i = c.loop-slot.slot-index in
     let d : Slot = record { fixup = MethodEntryDefToken 0; word = 0 } in
     record {
-      put = put_more (λ (s : Slot). little_bytes 8 s.word) slots i d c.loop-slot.out.items _ (c.args.out.now.items ++ cell_bytes slots) c.loop-slot-test.true (put_made c.loop-slot.out.items _ _ _ c.in_ok-extend_from_slice.ensures.items c.to_le_bytes.ensures) c.loop-slot.invariant.put;
+      put = put_more (λ (s : Slot). little_bytes 8 s.word) slots i d c.loop-slot.out.items _ (c.args.out.now.items ++ cell_bytes slots)
+          c.loop-slot-test.true (put_made c.loop-slot.out.items _ _ _ c.in_ok-extend_from_slice.ensures.items c.to_le_bytes.ensures)
+          c.loop-slot.invariant.put;
       words = All-more (λ (s : Slot). s.word < 2 ^ 64) slots i d c.loop-slot-test.true c.loop-slot.invariant.words (omega arith);
     }
 

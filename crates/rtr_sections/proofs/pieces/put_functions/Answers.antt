@@ -11,10 +11,14 @@ loop-function-preserved c =
     let functions = c.args.functions.now in
     let i = c.loop-function.function-index in
     record {
-      put = function_more functions i c.loop-function.unwind (record { begin = 0; length = 0 }) c.loop-function.out.items _ _ (c.args.out.now.items ++ function_bytes c.args.unwinds functions) c.loop-function-test.true (put_made c.loop-function.out.items _ _ _ c.in_ok-extend_from_slice.ensures.items c.to_le_bytes.ensures)
+      put =
+          function_more functions i c.loop-function.unwind (record { begin = 0; length = 0 }) c.loop-function.out.items _ _
+          (c.args.out.now.items ++ function_bytes c.args.unwinds functions) c.loop-function-test.true
+          (put_made c.loop-function.out.items _ _ _ c.in_ok-extend_from_slice.ensures.items c.to_le_bytes.ensures)
           (put_made _ _ _ _ c.in_ok-extend_from_slice-2.ensures.items c.to_le_bytes-in-loop-function.ensures) c.loop-function.invariant.put;
       unwind = omega arith;
-      ranges = All-more (λ (f : Function). f.begin < 2 ^ 32) functions i (record { begin = 0; length = 0 }) c.loop-function-test.true c.loop-function.invariant.ranges (omega arith);
+      ranges = All-more (λ (f : Function). f.begin < 2 ^ 32) functions i (record { begin = 0; length = 0 }) c.loop-function-test.true
+          c.loop-function.invariant.ranges (omega arith);
     }
 
 pub returns-clause-ranges : goal.returns-clause-ranges

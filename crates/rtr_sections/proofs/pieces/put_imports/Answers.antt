@@ -13,8 +13,10 @@ loop-import-preserved c =
     let i = c.loop-import.import-index in
     let d : ImportSection = record { rva = 0; size = 0; flags = 0; kind = 0; entry_size = 0; signatures = 0; auxiliary = 0 } in
     record {
-      put = put_more import_bytes imports i d c.loop-import.out.items _ (c.args.out.now.items ++ flat_map import_bytes imports) c.loop-import-test.true c.in_ok-put.ensures.record c.loop-import.invariant.put;
-      flags = All-more (λ (i : ImportSection). i.flags < 2 ^ 16) imports i d c.loop-import-test.true c.loop-import.invariant.flags c.in_ok-put.ensures.flags;
+      put = put_more import_bytes imports i d c.loop-import.out.items _ (c.args.out.now.items ++ flat_map import_bytes imports)
+          c.loop-import-test.true c.in_ok-put.ensures.record c.loop-import.invariant.put;
+      flags = All-more (λ (i : ImportSection). i.flags < 2 ^ 16) imports i d c.loop-import-test.true c.loop-import.invariant.flags
+          c.in_ok-put.ensures.flags;
     }
 
 pub returns-clause-flags : goal.returns-clause-flags

@@ -12,8 +12,12 @@ loop-function-preserved c =
     let functions = c.args.functions.now in
     let i = c.loop-function.function-index in
     record {
-      put = put_more (λ (f : Function). little_bytes 4 f.length) functions i (record { begin = 0; length = 0 }) c.loop-function.out.items _ (c.args.out.now.items ++ unwind_bytes functions) c.loop-function-test.true (put_made c.loop-function.out.items _ _ _ c.in_ok-extend_from_slice.ensures.items c.to_le_bytes.ensures) c.loop-function.invariant.put;
-      ranges = All-more (λ (f : Function). f.length < 2 ^ 32) functions i (record { begin = 0; length = 0 }) c.loop-function-test.true c.loop-function.invariant.ranges (omega arith);
+      put = put_more (λ (f : Function). little_bytes 4 f.length) functions i (record { begin = 0; length = 0 }) c.loop-function.out.items _
+          (c.args.out.now.items ++ unwind_bytes functions) c.loop-function-test.true
+          (put_made c.loop-function.out.items _ _ _ c.in_ok-extend_from_slice.ensures.items c.to_le_bytes.ensures)
+          c.loop-function.invariant.put;
+      ranges = All-more (λ (f : Function). f.length < 2 ^ 32) functions i (record { begin = 0; length = 0 }) c.loop-function-test.true
+          c.loop-function.invariant.ranges (omega arith);
     }
 
 pub returns-clause-ranges : goal.returns-clause-ranges

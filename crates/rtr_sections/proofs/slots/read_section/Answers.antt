@@ -1,4 +1,4 @@
-use Rattle.std.proofs.Common.{◌≡◌, ◌<◌, ◌++◌, ◌∙◌, Some, None, arith}
+use Rattle.std.proofs.Common.{◌≡◌, ◌<◌, ◌++◌, ◌∙◌, arith}
 use Rattle.rtr_sections.specs.Numbered.{present}
 use Rattle.rtr_sections.specs.Imports.{slot_count, slot_of, slots_in}
 use Rattle.rtr_sections.proofs.Numbered.{present-more, present-none, present-end}
@@ -15,7 +15,8 @@ loop-i-preserved c =
     let all = c.args.slots.now.items ++ present (slot_of bytes import) 0 n in
     let below : i < n = omega (arith, c.slot_count-i-end.ensures.count) in
     let read =
-    slot_read bytes import c.signatures_at-signatures.result c.cells_at-cells.result i c.slot_at.result c.signatures_at-signatures.ensures.place c.cells_at-cells.ensures.place c.slot_at.ensures in
+    slot_read bytes import c.signatures_at-signatures.result c.cells_at-cells.result i c.slot_at.result
+    c.signatures_at-signatures.ensures.place c.cells_at-cells.ensures.place c.slot_at.ensures in
     elim c.match-slot_at.branch [
       | in-Some+in_ok-push w ↦
           rw (w.slots-is, w.in_ok-push.ensures.items)

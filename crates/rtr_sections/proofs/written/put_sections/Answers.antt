@@ -15,8 +15,11 @@ loop-section-preserved c =
     let d : RtrSection = record { kind = 0; rva = 0; size = 0 } in
     let made = ranged c.args.places.now c.args.entries in
     record {
-      put = mapped_more made section_bytes sections i d c.ranged.result c.loop-section.out.items _ (c.args.out.now.items ++ flat_map section_bytes (map made sections)) c.loop-section-test.true c.ranged.ensures.section c.in_ok-put.ensures c.loop-section.invariant.put;
-      ranges = All-more (λ (s : RtrSection). (s.rva < 2 ^ 32) × (s.size < 2 ^ 32)) sections i d c.loop-section-test.true c.loop-section.invariant.ranges c.ranged.ensures.fits;
+      put = mapped_more made section_bytes sections i d c.ranged.result c.loop-section.out.items _
+          (c.args.out.now.items ++ flat_map section_bytes (map made sections)) c.loop-section-test.true c.ranged.ensures.section
+          c.in_ok-put.ensures c.loop-section.invariant.put;
+      ranges = All-more (λ (s : RtrSection). (s.rva < 2 ^ 32) × (s.size < 2 ^ 32)) sections i d c.loop-section-test.true
+          c.loop-section.invariant.ranges c.ranged.ensures.fits;
     }
 
 pub returns-clause-ranges : goal.returns-clause-ranges

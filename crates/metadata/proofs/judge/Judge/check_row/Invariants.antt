@@ -6,4 +6,6 @@ use Rattle.metadata.proofs.judge.Judge.check_row.Given as goal
 
 abbrev pub invariant-loop-index : goal.invariant-loop-index
 invariant-loop-index l =
-    Judging (bad_column l.self.bytes.now l.self.places.now l.table.number l.row) (fallen_column l.self.bytes.now l.self.places.now l.table.number l.row) 0 (length (columns_of l.table.number)) l.index l.fn.fallen l.fallen
+    Judging (bad_column l.self.bytes.now l.self.places.now l.table.number l.row)
+    (fallen_column l.self.bytes.now l.self.places.now l.table.number l.row) 0 (length (columns_of l.table.number))
+    l.index l.fn.fallen l.fallen

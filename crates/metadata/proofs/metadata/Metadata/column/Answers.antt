@@ -9,42 +9,58 @@ use Rattle.metadata.proofs.metadata.Metadata.column.Goals as goal
 use Rattle.metadata.proofs.metadata.Metadata.column.Goals.{then-row-eq0-via-then-row-eq0, then-row-eq0-via-else-row-eq0+then-row-table}
 
 -- the table of a number, among those that are kept
-table_is : (layout : Layout) (tables items : List TableLayout) (n : ℕ) (table : TableLayout) → AreTables layout items → tables ≡ items → Some table ≡ slice_get tables n → IsTable layout n table
+table_is : (layout : Layout) (tables items : List TableLayout) (n : ℕ) (table : TableLayout) → AreTables layout items
+    → tables ≡ items → Some table ≡ slice_get tables n → IsTable layout n table
 table_is layout tables items n table are same e = are.each n table (sym (e ∙ ap (λ l. slice_get l n) same))
 
 pub returns-in_err-table : goal.returns-in_err-table
 returns-in_err-table c =
     let none : column_of c.args.bytes.now c.args.self.now c.args.table c.args.row c.args.column ≡ None =
     ap (λ l. column_of c.args.bytes.now l c.args.table c.args.row c.args.column) (sym c.self.view_is)
-    ∙ no_table c.args.bytes.now c.self.inside.places c.self.inside.tables.items c.args.table c.args.row c.args.column c.self.invariant (c.in_err-table.ensures ∙ ap (λ l. slice_get l c.args.table) c.deref.ensures.value) in
+    ∙ no_table c.args.bytes.now c.self.inside.places c.self.inside.tables.items c.args.table c.args.row c.args.column
+    c.self.invariant (c.in_err-table.ensures ∙ ap (λ l. slice_get l c.args.table) c.deref.ensures.value) in
     search (rules, none)
 
 pub returns-in_err-column : goal.returns-in_err-column
 returns-in_err-column c =
-    let t = table_is c.self.inside.places c.deref.result.now c.self.inside.tables.items c.args.table c.in_ok-table.table.now c.self.invariant c.deref.ensures.value c.in_ok-table.ensures in
+    let t =
+    table_is c.self.inside.places c.deref.result.now c.self.inside.tables.items c.args.table c.in_ok-table.table.now
+    c.self.invariant c.deref.ensures.value c.in_ok-table.ensures in
     let none : column_of c.args.bytes.now c.args.self.now c.args.table c.args.row c.args.column ≡ None =
     ap (λ l. column_of c.args.bytes.now l c.args.table c.args.row c.args.column) (sym c.self.view_is)
-    ∙ no_column c.args.bytes.now c.self.inside.places c.in_ok-table.table.now c.args.table c.args.row c.args.column t (c.in_err-column.ensures ∙ ap (λ l. slice_get l c.args.column) c.deref-2.ensures.value) in
+    ∙ no_column c.args.bytes.now c.self.inside.places c.in_ok-table.table.now c.args.table c.args.row c.args.column t
+    (c.in_err-column.ensures ∙ ap (λ l. slice_get l c.args.column) c.deref-2.ensures.value) in
     search (rules, none)
 
 pub returns-then-row-eq0 : goal.returns-then-row-eq0
 returns-then-row-eq0 c =
-    let t = table_is c.self.inside.places c.deref.result.now c.self.inside.tables.items c.args.table c.in_ok-table.table.now c.self.invariant c.deref.ensures.value c.in_ok-table.ensures in
+    let t =
+    table_is c.self.inside.places c.deref.result.now c.self.inside.tables.items c.args.table c.in_ok-table.table.now
+    c.self.invariant c.deref.ensures.value c.in_ok-table.ensures in
     elim c.then-row-eq0.branch [
-      | then-row-eq0-via-then-row-eq0 w ↦ sym (no_first_row c.args.bytes.now c.args.self.now c.args.table c.args.row c.args.column w.if-row-eq0.true)
+      | then-row-eq0-via-then-row-eq0 w ↦
+          sym (no_first_row c.args.bytes.now c.args.self.now c.args.table c.args.row c.args.column w.if-row-eq0.true)
       | then-row-eq0-via-else-row-eq0+then-row-table w ↦
-          sym (ap (λ l. column_of c.args.bytes.now l c.args.table c.args.row c.args.column) (sym c.self.view_is) ∙ no_row c.args.bytes.now c.self.inside.places c.in_ok-table.table.now c.args.table c.args.row c.args.column t w.if-row-table.true)
+          sym (ap (λ l. column_of c.args.bytes.now l c.args.table c.args.row c.args.column) (sym c.self.view_is)
+          ∙ no_row c.args.bytes.now c.self.inside.places c.in_ok-table.table.now c.args.table c.args.row
+          c.args.column t w.if-row-table.true)
     ]
 
 pub row_at-requires-clause-inside : goal.row_at-requires-clause-inside
 row_at-requires-clause-inside c =
-    let t = table_is c.self.inside.places c.deref.result.now c.self.inside.tables.items c.args.table c.in_ok-table.table.now c.self.invariant c.deref.ensures.value c.in_ok-table.ensures in
+    let t =
+    table_is c.self.inside.places c.deref.result.now c.self.inside.tables.items c.args.table c.in_ok-table.table.now
+    c.self.invariant c.deref.ensures.value c.in_ok-table.ensures in
     rows_inside c.self.inside.places c.args.table c.in_ok-table.table.now t
 
 pub overflow_add-row_at : goal.overflow_add-row_at
 overflow_add-row_at c =
-    let t = table_is c.self.inside.places c.deref.result.now c.self.inside.tables.items c.args.table c.in_ok-table.table.now c.self.invariant c.deref.ensures.value c.in_ok-table.ensures in
-    let is = nth_is c.self.inside.places c.in_ok-table.table.now c.args.table c.args.column c.in_ok-column.column.now t (c.in_ok-column.ensures ∙ ap (λ l. slice_get l c.args.column) c.deref-2.ensures.value) in
+    let t =
+    table_is c.self.inside.places c.deref.result.now c.self.inside.tables.items c.args.table c.in_ok-table.table.now
+    c.self.invariant c.deref.ensures.value c.in_ok-table.ensures in
+    let is =
+    nth_is c.self.inside.places c.in_ok-table.table.now c.args.table c.args.column c.in_ok-column.column.now t
+    (c.in_ok-column.ensures ∙ ap (λ l. slice_get l c.args.column) c.deref-2.ensures.value) in
     let offset = is.inside in
     let size = t.row_size in
     let row = c.row_at.ensures.inside in
@@ -52,11 +68,18 @@ overflow_add-row_at c =
 
 pub returns : goal.returns
 returns c =
-    let t = table_is c.self.inside.places c.deref.result.now c.self.inside.tables.items c.args.table c.in_ok-table.table.now c.self.invariant c.deref.ensures.value c.in_ok-table.ensures in
+    let t =
+    table_is c.self.inside.places c.deref.result.now c.self.inside.tables.items c.args.table c.in_ok-table.table.now
+    c.self.invariant c.deref.ensures.value c.in_ok-table.ensures in
     let nth = c.in_ok-column.ensures ∙ ap (λ l. slice_get l c.args.column) c.deref-2.ensures.value in
     let is = nth_is c.self.inside.places c.in_ok-table.table.now c.args.table c.args.column c.in_ok-column.column.now t nth in
-    let place = place_is c.self.inside.places c.args.table c.in_ok-table.table.now c.args.row c.args.column c.in_ok-column.column.now _ t is (ap (λ p. p + c.in_ok-column.column.now.offset) c.row_at.ensures.place) in
-    let number = number_is c.args.bytes.now c.self.inside.places c.args.table c.args.row c.args.column c.in_ok-column.column.now _ c.number_at.result is place c.number_at.ensures in
+    let place =
+    place_is c.self.inside.places c.args.table c.in_ok-table.table.now c.args.row c.args.column
+    c.in_ok-column.column.now _ t is (ap (λ p. p + c.in_ok-column.column.now.offset) c.row_at.ensures.place) in
+    let number =
+    number_is c.args.bytes.now c.self.inside.places c.args.table c.args.row c.args.column c.in_ok-column.column.now
+    _ c.number_at.result is place c.number_at.ensures in
     ap Some number
-    ∙ sym (the_column c.args.bytes.now c.self.inside.places c.in_ok-table.table.now c.args.table c.args.row c.args.column c.in_ok-column.column.now t nth (omega arith) (omega arith))
+    ∙ sym (the_column c.args.bytes.now c.self.inside.places c.in_ok-table.table.now c.args.table c.args.row
+    c.args.column c.in_ok-column.column.now t nth (omega arith) (omega arith))
     ∙ ap (λ l. column_of c.args.bytes.now l c.args.table c.args.row c.args.column) c.self.view_is

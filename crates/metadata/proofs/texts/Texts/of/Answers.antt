@@ -9,5 +9,6 @@ pub places-init : goal.places-init
 places-init c = record {
   same = grind (arith, common_steps);
   inside = omega arith;
-  later = λ k past. get_or_past c.in_ok-marks.marks.items k false (grind (arith, common_steps)) ∙ sym (none_past_end c.args.heap.now k past);
+  later = λ k past. get_or_past c.in_ok-marks.marks.items k false (grind (arith, common_steps))
+      ∙ sym (none_past_end c.args.heap.now k past);
 }

@@ -7,7 +7,10 @@ pub returns : goal.returns
 returns c =
     elim c.match-low.branch [
       | in-Some+in_ok-push w ↦
-          ap (λ v. v.items) w.bytes-is ∙ finished_half c.self.inside.bytes.items w.push.new.self.items c.args.self c.self.inside.low w.in-Some.low w.in-Some.is w.in_ok-push.ensures.items (sym c.self.view_is)
+          ap (λ v. v.items) w.bytes-is
+          ∙ finished_half c.self.inside.bytes.items w.push.new.self.items c.args.self c.self.inside.low w.in-Some.low w.in-Some.is
+          w.in_ok-push.ensures.items (sym c.self.view_is)
       | in_default w ↦
-          ap (λ v. v.items) w.bytes-is ∙ finished_whole c.self.inside.bytes.items c.args.self c.self.inside.low w.in_default.is (sym c.self.view_is)
+          ap (λ v. v.items) w.bytes-is
+          ∙ finished_whole c.self.inside.bytes.items c.args.self c.self.inside.low w.in_default.is (sym c.self.view_is)
     ]

@@ -6,4 +6,6 @@ use Rattle.native_format.proofs.nibble_writer.NibbleWriter.put_number.Goals as g
 
 pub returns : goal.returns
 unfolding groups
-returns c = both_put c.args.self.now c.put_marked.new.self c.put.new.self (map (λ d. 8 + d) (digits_of 8 (c.args.value / 8))) ((c.args.value % 8) ∷ []) c.in_ok-put.ensures c.in_ok-put_marked.ensures
+returns c =
+    both_put c.args.self.now c.put_marked.new.self c.put.new.self (map (λ d. 8 + d) (digits_of 8 (c.args.value / 8)))
+    ((c.args.value % 8) ∷ []) c.in_ok-put.ensures c.in_ok-put_marked.ensures

@@ -7,6 +7,7 @@ pub returns-clause-measures : goal.returns-clause-measures
 returns-clause-measures c count lengths content len_is h =
     let P : Measure → Type 0 = λ m. Measures m count lengths in
     elim c.if-self-index.branch [
-      | then-self-index w ↦ c.put.ensures.measures count lengths content len_is (subst P (sym w.self-is) (w.start.ensures.measures count lengths h))
+      | then-self-index w ↦
+          c.put.ensures.measures count lengths content len_is (subst P (sym w.self-is) (w.start.ensures.measures count lengths h))
       | else-self-index w ↦ c.put.ensures.measures count lengths content len_is (subst P (sym w.self-is) h)
     ]

@@ -9,5 +9,7 @@ returns c count lengths h =
     let block = ap (λ (m : Measure). m.block) c.self.view_is in
     let next = ap (λ (m : Measure). m.next) c.self.view_is in
     let slots = c.block_len.ensures ∙ ap (λ (m : Measure). capped (block_len m.slots)) c.self.view_is in
-    let later = before_later c.args.self.now count lengths c.args.block c.block_len.result h (omega (arith, c.self.invariant, next, block)) c.requires slots in
+    let later =
+    before_later c.args.self.now count lengths c.args.block c.block_len.result h (omega (arith, c.self.invariant, next, block)) c.requires
+    slots in
     omega (arith, later, before, block, c.from-empty.ensures, c.saturating_add.ensures, c.saturating_add-2.ensures)

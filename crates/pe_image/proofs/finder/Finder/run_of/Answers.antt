@@ -4,7 +4,9 @@ use Rattle.pe_image.specs.Sections.{has_range}
 use Rattle.pe_image.specs.Finder.{IsRising, IsStairs}
 use Rattle.pe_image.proofs.FinderLemmas.{half, within, StandsAt, stays, stays_last, goes_on, answered, run_width-positive}
 use Rattle.pe_image.proofs.finder.Finder.run_of.Goals as goal
-use Rattle.pe_image.proofs.finder.Finder.run_of.Goals.{then-width-sections+then-not-has_step, else-width-sections, else-width-sections-via-then-width-sections+else-not-has_step, else-width-sections-via-else-width-sections}
+use Rattle.pe_image.proofs.finder.Finder.run_of.Goals.{then-width-sections+then-not-has_step, else-width-sections}
+use Rattle.pe_image.proofs.finder.Finder.run_of.Goals.{else-width-sections-via-then-width-sections+else-not-has_step}
+use Rattle.pe_image.proofs.finder.Finder.run_of.Goals.{else-width-sections-via-else-width-sections}
 
 pub slice_bounds-has_step-end : goal.slice_bounds-has_step-end
 slice_bounds-has_step-end c =

@@ -1,4 +1,4 @@
-use Rattle.std.proofs.Common.{◌++◌, arith}
+use Rattle.std.proofs.Common.{◌++◌, ◌∙◌, ap, drop, take, arith}
 use Rattle.std.proofs.lemmas.List.Elements.{All-drop, All-same}
 use Rattle.fixup_sigs.specs.Shortest.{IsSpellable}
 use Rattle.rtr_sections.specs.declared.slots.Slot.{Slot}
@@ -15,7 +15,8 @@ loop-number-preserved c =
       spellable = All-same HasSpelling c.split_slots.result.1.now _ c.split_slots.ensures.others
           (All-drop HasSpelling _ rest c.loop-number.invariant.spellable);
       lines = imports-more c.args.imports.now c.loop-number.number _ rest c.split_slots.result.0.now c.split_slots.result.1.now
-          c.loop-number.self c.import_line.new.self c.slot_lines.new.self all (omega arith) c.split_slots.ensures.own
-          c.split_slots.ensures.others
+          c.loop-number.self c.import_line.new.self c.slot_lines.new.self all (omega arith)
+          (c.split_slots.ensures.own ∙ ap (λ n. take n rest) c.slot_count.ensures.count)
+          (c.split_slots.ensures.others ∙ ap (λ n. drop n rest) c.slot_count.ensures.count)
           c.in_ok-import_line.ensures c.in_ok-slot_lines.ensures c.loop-number.invariant.lines;
     }

@@ -1,0 +1,11 @@
+pub mod Elements
+pub mod Types
+pub mod Signatures
+pub mod Heads
+pub mod Shortest
+pub mod Bodies
+pub mod Checks
+pub mod Flags
+pub mod Assemblies
+pub mod Kept
+pub mod Named
