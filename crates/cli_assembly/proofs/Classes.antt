@@ -1,5 +1,5 @@
 -- The coded TypeDefOrRef of a token is read as the token.
-use Rattle.std.proofs.Common.{◌≡◌, ◌<◌, ◌^◌, ℕ, ◌+◌, ◌*◌, ◌/◌, ◌%◌, Bool, true, false, eqb, Option, Some, None, ◌⊎◌}
+use Rattle.std.proofs.Common.{◌≡◌, ◌<◌, ◌^◌, ℕ, ◌+◌, ◌*◌, ◌/◌, ◌%◌, true, false, eqb, Option, Some, None, ◌⊎◌}
 use Rattle.std.proofs.Common.{inl, inr, refl, sym, ap, ◌∙◌, arith}
 use Rattle.std.specs.Prelude.{is_some, unwrap_or, IsTrue}
 use Rattle.std.proofs.lemmas.Bool.{lt-ltb}
@@ -40,15 +40,15 @@ at_tag row tag table small fits e =
     let r : (row * 4 + tag) % 4 ≡ tag = omega arith in
     rw q (rw r (rw (lt-ltb row (2 ^ 24) fits) (rw e refl)))
 
-def_tag : tagged_table kinds.TypeDefOrRef 0 ≡ Some tables.TypeDef
+pub def_tag : tagged_table kinds.TypeDefOrRef 0 ≡ Some tables.TypeDef
 unfolding tagged_table
 def_tag = refl
 
-ref_tag : tagged_table kinds.TypeDefOrRef 1 ≡ Some tables.TypeRef
+pub ref_tag : tagged_table kinds.TypeDefOrRef 1 ≡ Some tables.TypeRef
 unfolding tagged_table
 ref_tag = refl
 
-spec_tag : tagged_table kinds.TypeDefOrRef 2 ≡ Some tables.TypeSpec
+pub spec_tag : tagged_table kinds.TypeDefOrRef 2 ≡ Some tables.TypeSpec
 unfolding tagged_table
 spec_tag = refl
 

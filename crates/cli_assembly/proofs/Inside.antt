@@ -26,7 +26,7 @@ in_file bytes at fits above =
       | inr ends ↦ leb-true (start + size) (length bytes) ends
     ]
 
-abbrev AllInFile : List ℕ → List PeSection → Type 0
+abbrev pub AllInFile : List ℕ → List PeSection → Type 0
 AllInFile bytes [] = Unit {0}
 AllInFile bytes (s ∷ ss) = IsInFile bytes s × AllInFile bytes ss
 
@@ -75,7 +75,7 @@ within : (b : Bool) (place : Option ℕ) (len end : ℕ) → (is_some place ≡ 
 within true place len end ends found = ends found
 within false place len end ends found = absurd (let x : ⊥ = cc in x)
 
-slice_inside : (bytes : List ℕ) (sections : List PeSection) (rva len : ℕ) → 0 < len → AllInFile bytes sections
+pub slice_inside : (bytes : List ℕ) (sections : List PeSection) (rva len : ℕ) → 0 < len → AllInFile bytes sections
     → is_some (slice_of_rva sections rva len) ≡ true → unwrap_or (slice_of_rva sections rva len) 0 + len ≤ length bytes
 slice_inside bytes sections rva len some all found =
     within (nat_le (rva + len) (2 ^ 32)) (place_in rva (find (has_range rva len) sections)) len (length bytes)
@@ -87,13 +87,20 @@ none_mapped : (o : Option ℕ) → option_map (λ at. at + 20) o ≡ None → o 
 none_mapped None e = refl
 none_mapped (Some p) e = absurd (let x : ⊥ = cc in x)
 
+-- where each section's raw range ends in the file
+pub sections_inside : (bytes : List ℕ) → first_fault pe_checks bytes ≡ None → AllInFile bytes (sections_of bytes)
+sections_inside bytes e =
+    let a = both_pass coff_checks (optional_checks ++ (section_checks ++ cli_checks)) bytes e in
+    let b = both_pass optional_checks (section_checks ++ cli_checks) bytes a.1 in
+    let d = both_pass section_checks cli_checks bytes b.1 in
+    all_in_file bytes (section_table_at bytes) (section_count bytes) (none_mapped _ (fault_none _ _ _ d.0).0)
+
 pub metadata_inside : (bytes : List ℕ) → first_fault pe_checks bytes ≡ None → IsInside (headers_of bytes).metadata (length bytes)
 metadata_inside bytes e some =
     let a = both_pass coff_checks (optional_checks ++ (section_checks ++ cli_checks)) bytes e in
     let b = both_pass optional_checks (section_checks ++ cli_checks) bytes a.1 in
     let d = both_pass section_checks cli_checks bytes b.1 in
-    let ranges = all_in_file bytes (section_table_at bytes) (section_count bytes) (none_mapped _ (fault_none _ _ _ d.0).0) in
     let last = fault_none _ _ _ (both_pass directory_checks cli_header_checks bytes d.1).1 in
     let found : is_some (metadata_place bytes) ≡ true =
     holds (is_some (metadata_place bytes)) (cli_at bytes + 8) (fault_none _ _ _ last.1).0 in
-    slice_inside bytes (sections_of bytes) (u32_of bytes (cli_at bytes + 8)) (metadata_size bytes) some ranges found
+    slice_inside bytes (sections_of bytes) (u32_of bytes (cli_at bytes + 8)) (metadata_size bytes) some (sections_inside bytes e) found

@@ -4,6 +4,9 @@ mod Records
 mod ByRow
 mod ReadBack
 mod Coded
+mod Columns
+mod BodiesInside
+mod FewRows
 mod Compressed
 mod Bind
 mod Numbers
@@ -12,8 +15,12 @@ mod TypeLoop
 mod TypeLists
 mod Classes
 mod SignaturesBack
+mod BytesKept
+mod ShortestNumbers
+mod ShortestSigs
 mod Passed
 mod Named
+mod Lists
 mod Inside
 mod FirstOf
 mod Rows

@@ -1,6 +1,6 @@
 -- Compressed numbers at the front of bytes.
 use Rattle.std.proofs.Common.{◌≡◌, ◌≤◌, ◌<◌, ℕ, zero, suc, ◌+◌, ◌-◌, List, drop, length, Option, Some, None, IfSome}
-use Rattle.std.proofs.Common.{refl, sym, ap, ◌∙◌, arith, zero-add, length-drop}
+use Rattle.std.proofs.Common.{refl, sym, ap, arith, zero-add, length-drop}
 use Rattle.std.specs.Option.{option_map, option_and_then}
 use Rattle.rtr_bytes.specs.Compressed.{compressed_at, compressed_in}
 use Rattle.cli_assembly.specs.Types.{after_counted, after_items, after_number, after_shape, number_in}

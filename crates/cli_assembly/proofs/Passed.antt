@@ -5,13 +5,16 @@ use Rattle.std.proofs.lemmas.Bool.{cases_lt, eqb-true}
 use Rattle.rtr_bytes.specs.declared.fault.Fault.{Fault}
 use Rattle.rtr_bytes.specs.declared.fault.Span.{Span}
 use Rattle.rtr_bytes.specs.Checks.{Check, fault_or, first_fault, holds_or}
+use Rattle.pe_image.specs.Checks.{pe_checks}
 use Rattle.metadata.specs.declared.schema.Table.TheVariants as tables
 use Rattle.metadata.specs.Schema.{columns_of, table_number}
-use Rattle.metadata.specs.Checks.{bad_column, first_column, first_in_row, first_in_table, first_of, has_one_assembly}
+use Rattle.metadata.specs.Checks.{bad_column, fallen_column, first_column, first_in_row, first_in_table, first_of, has_one_assembly}
 use Rattle.metadata.specs.Checks.{header_checks, kind_of, layout_checks, metadata_checks, or_else, root_checks}
 use Rattle.metadata.specs.Checks.{stream_checks, tables_of}
 use Rattle.metadata.specs.Heaps.{is_valid}
 use Rattle.metadata.specs.Tables.{Layout, column_at, layout_of, number_of, rows_of}
+use Rattle.cli_assembly.specs.Checks.{assembly_checks, body_checks, metadata_of}
+use Rattle.cli_assembly.specs.Named.{IsWellFormed}
 
 pub fault_none : (n : ℕ) (o : Option ℕ) (rest : Option Fault) → fault_or n o rest ≡ None → (o ≡ None) × (rest ≡ None)
 fault_none n None rest e = (refl, e)
@@ -59,26 +62,47 @@ each_column layout answer table row column none few first last below =
 
 -- ---- the checks of metadata
 
-layout_pass : (span : Span) (bytes : List ℕ) → first_fault (metadata_checks span) bytes ≡ None
-    → first_fault (layout_checks span) bytes ≡ None
+both_parts : (span : Span) (bytes : List ℕ) → first_fault (metadata_checks span) bytes ≡ None
+    → (first_fault (header_checks span) bytes ≡ None) × (first_fault (layout_checks span) bytes ≡ None)
 unfolding metadata_checks
-layout_pass span bytes e =
+both_parts span bytes e =
     let a = both_pass (root_checks span) (stream_checks span ++ (header_checks span ++ layout_checks span)) bytes e in
     let b = both_pass (stream_checks span) (header_checks span ++ layout_checks span) bytes a.1 in
-    (both_pass (header_checks span) (layout_checks span) bytes b.1).1
+    both_pass (header_checks span) (layout_checks span) bytes b.1
+
+pub headers_pass : (span : Span) (bytes : List ℕ) → first_fault (metadata_checks span) bytes ≡ None
+    → first_fault (header_checks span) bytes ≡ None
+headers_pass span bytes e = (both_parts span bytes e).0
 
 -- what the four checks of rows and columns give, by the layout
 pub record Passes (bytes : List ℕ) (layout : Layout) : Type 0 where
   pub one : has_one_assembly layout ≡ true
   pub valid : first_column layout (bad_column bytes layout) ≡ None
+  pub ascends : first_column layout (fallen_column bytes layout) ≡ None
 
 pub passes : (span : Span) (bytes : List ℕ) → first_fault (metadata_checks span) bytes ≡ None → Passes bytes (layout_of bytes span)
 passes span bytes e =
     let layout = layout_of bytes span in
-    let a = fault_none _ _ _ (layout_pass span bytes e) in
+    let a = fault_none _ _ _ (both_parts span bytes e).1 in
     let b = fault_none _ _ _ a.1 in
     let d = fault_none _ _ _ b.1 in
-    record { one = holds (has_one_assembly layout) ((tables_of bytes span).start + 8) b.0; valid = d.0 }
+    record {
+      one = holds (has_one_assembly layout) ((tables_of bytes span).start + 8) b.0;
+      valid = d.0;
+      ascends = (fault_none _ _ _ d.1).0;
+    }
+
+-- the checks of a file's headers, and of its metadata
+pub pe_pass : (bytes : List ℕ) → IsWellFormed bytes → first_fault pe_checks bytes ≡ None
+unfolding assembly_checks
+pe_pass bytes e = (both_pass pe_checks (metadata_checks (metadata_of bytes) ++ body_checks (metadata_of bytes)) bytes e).0
+
+pub metadata_pass : (bytes : List ℕ) → IsWellFormed bytes → first_fault (metadata_checks (metadata_of bytes)) bytes ≡ None
+unfolding assembly_checks
+metadata_pass bytes e =
+    let span = metadata_of bytes in
+    let a = both_pass pe_checks (metadata_checks span ++ body_checks span) bytes e in
+    (both_pass (metadata_checks span) (body_checks span) bytes a.1).0
 
 -- each column of each row is valid
 pub column_valid : (bytes : List ℕ) (layout : Layout) (table row column : ℕ) → Passes bytes layout → table < 64 → 1 ≤ row

@@ -5,7 +5,8 @@ use Rattle.metadata.specs.declared.schema.Table.{Table}
 use Rattle.metadata.specs.Schema.{columns_of, table_number}
 use Rattle.metadata.specs.Heaps.{blob_of, string_of, user_string_of}
 use Rattle.metadata.specs.Tables.{Layout, number_of, row_of, rows_of, table_of}
-use Rattle.cli_assembly.specs.Assemblies.{assembly_by, blob_at, column, row_count, string_at, table_in, user_string_at}
+use Rattle.cli_assembly.specs.Assemblies.{assembly_by, assembly_of, blob_at, column, row_count, string_at, table_in, user_string_at}
+use Rattle.cli_assembly.specs.Kept.{file_layout}
 
 -- ---- heaps
 
@@ -22,9 +23,22 @@ user_strings_are : (bytes : List ℕ) (layout : Layout) (at : ℕ)
 unfolding assembly_by user_string_at user_string_of
 user_strings_are bytes layout at = refl
 
+-- those of a file
+pub file_strings : (bytes : List ℕ) (at : ℕ) → string_at (assembly_of bytes) at ≡ string_of bytes (file_layout bytes) at
+unfolding assembly_of
+file_strings bytes at = strings_are bytes (file_layout bytes) at
+
+pub file_blobs : (bytes : List ℕ) (at : ℕ) → blob_at (assembly_of bytes) at ≡ blob_of bytes (file_layout bytes) at
+unfolding assembly_of
+file_blobs bytes at = blobs_are bytes (file_layout bytes) at
+
+pub file_user_strings : (bytes : List ℕ) (at : ℕ) → user_string_at (assembly_of bytes) at ≡ user_string_of bytes (file_layout bytes) at
+unfolding assembly_of
+file_user_strings bytes at = user_strings_are bytes (file_layout bytes) at
+
 -- ---- tables
 
-tables_are : (bytes : List ℕ) (layout : Layout) (table : Table) → table_number table < 64
+pub tables_are : (bytes : List ℕ) (layout : Layout) (table : Table) → table_number table < 64
     → table_in (assembly_by bytes layout) table ≡ table_of bytes layout (table_number table)
 unfolding assembly_by
 tables_are bytes layout table few =

@@ -10,15 +10,15 @@ use Rattle.metadata.specs.declared.schema.Table.{Table}
 use Rattle.metadata.specs.declared.schema.Table.TheVariants as tables
 use Rattle.metadata.specs.Heaps.{blob_in, blob_of, counted, heap_bytes}
 use Rattle.metadata.specs.Schema.{columns_of, table_number}
-use Rattle.metadata.specs.Tables.{Layout, column_at, column_of, column_place, layout_of, number_of, rows_of}
+use Rattle.metadata.specs.Tables.{Layout, column_at, column_of, column_place, number_of, rows_of}
 use Rattle.cli_assembly.specs.declared.header.BodyAt.{BodyAt}
 use Rattle.cli_assembly.specs.Assemblies.{assembly_by, assembly_of, blob_at, column, field_signature, has_row}
 use Rattle.cli_assembly.specs.Assemblies.{local_signature, member_field_signature, member_method_signature}
 use Rattle.cli_assembly.specs.Assemblies.{method_signature, placed_in, row_count, signature_at}
 use Rattle.cli_assembly.specs.Bodies.{body_at, has_cil, placed_body}
-use Rattle.cli_assembly.specs.Checks.{has_cil_body, malformed_header, metadata_of, method_rva, place_if_malformed}
+use Rattle.cli_assembly.specs.Checks.{has_cil_body, malformed_header, method_rva, place_if_malformed}
 use Rattle.cli_assembly.specs.Checks.{place_if_unplaced, unplaced_body}
-use Rattle.cli_assembly.specs.Kept.{by_row, for_rows, row_header, sig_read}
+use Rattle.cli_assembly.specs.Kept.{by_row, file_layout, row_header, sig_read}
 use Rattle.cli_assembly.specs.Signatures.{field_sig_of, local_sig_of, method_sig_of}
 use Rattle.cli_assembly.proofs.ByRow.{no_row_after}
 use Rattle.cli_assembly.proofs.Coded.{few}
@@ -103,43 +103,43 @@ same_map f g [] e = refl
 same_map f g (x ∷ xs) e = ap (λ y. y ∷ map f xs) (e x) ∙ ap (λ ys. g x ∷ ys) (same_map f g xs e)
 
 pub methods_are : (bytes : List ℕ)
-    → for_rows (layout_of bytes (metadata_of bytes)) 6 (sig_read method_sig_of bytes (layout_of bytes (metadata_of bytes)) 6 4)
-    ≡ by_row bytes tables.MethodDef (method_signature (assembly_of bytes))
+    → by_row (file_layout bytes) tables.MethodDef (sig_read method_sig_of bytes (file_layout bytes) 6 4)
+    ≡ by_row (file_layout bytes) tables.MethodDef (method_signature (assembly_of bytes))
 unfolding assembly_of method_signature columns_of
 methods_are bytes =
-    let layout = layout_of bytes (metadata_of bytes) in
+    let layout = file_layout bytes in
     same_map _ _ _ (λ row. sig_is method_sig_of bytes layout tables.MethodDef 4 row (omega arith))
 
 pub fields_are : (bytes : List ℕ)
-    → for_rows (layout_of bytes (metadata_of bytes)) 4 (sig_read field_sig_of bytes (layout_of bytes (metadata_of bytes)) 4 2)
-    ≡ by_row bytes tables.Field (field_signature (assembly_of bytes))
+    → by_row (file_layout bytes) tables.Field (sig_read field_sig_of bytes (file_layout bytes) 4 2)
+    ≡ by_row (file_layout bytes) tables.Field (field_signature (assembly_of bytes))
 unfolding assembly_of field_signature columns_of
 fields_are bytes =
-    let layout = layout_of bytes (metadata_of bytes) in
+    let layout = file_layout bytes in
     same_map _ _ _ (λ row. sig_is field_sig_of bytes layout tables.Field 2 row (omega arith))
 
 pub locals_are : (bytes : List ℕ)
-    → for_rows (layout_of bytes (metadata_of bytes)) 0x11 (sig_read local_sig_of bytes (layout_of bytes (metadata_of bytes)) 0x11 0)
-    ≡ by_row bytes tables.StandAloneSig (local_signature (assembly_of bytes))
+    → by_row (file_layout bytes) tables.StandAloneSig (sig_read local_sig_of bytes (file_layout bytes) 0x11 0)
+    ≡ by_row (file_layout bytes) tables.StandAloneSig (local_signature (assembly_of bytes))
 unfolding assembly_of local_signature columns_of
 locals_are bytes =
-    let layout = layout_of bytes (metadata_of bytes) in
+    let layout = file_layout bytes in
     same_map _ _ _ (λ row. sig_is local_sig_of bytes layout tables.StandAloneSig 0 row (omega arith))
 
 pub member_methods_are : (bytes : List ℕ)
-    → for_rows (layout_of bytes (metadata_of bytes)) 0x0A (sig_read method_sig_of bytes (layout_of bytes (metadata_of bytes)) 0x0A 2)
-    ≡ by_row bytes tables.MemberRef (member_method_signature (assembly_of bytes))
+    → by_row (file_layout bytes) tables.MemberRef (sig_read method_sig_of bytes (file_layout bytes) 0x0A 2)
+    ≡ by_row (file_layout bytes) tables.MemberRef (member_method_signature (assembly_of bytes))
 unfolding assembly_of member_method_signature columns_of
 member_methods_are bytes =
-    let layout = layout_of bytes (metadata_of bytes) in
+    let layout = file_layout bytes in
     same_map _ _ _ (λ row. sig_is method_sig_of bytes layout tables.MemberRef 2 row (omega arith))
 
 pub member_fields_are : (bytes : List ℕ)
-    → for_rows (layout_of bytes (metadata_of bytes)) 0x0A (sig_read field_sig_of bytes (layout_of bytes (metadata_of bytes)) 0x0A 2)
-    ≡ by_row bytes tables.MemberRef (member_field_signature (assembly_of bytes))
+    → by_row (file_layout bytes) tables.MemberRef (sig_read field_sig_of bytes (file_layout bytes) 0x0A 2)
+    ≡ by_row (file_layout bytes) tables.MemberRef (member_field_signature (assembly_of bytes))
 unfolding assembly_of member_field_signature columns_of
 member_fields_are bytes =
-    let layout = layout_of bytes (metadata_of bytes) in
+    let layout = file_layout bytes in
     same_map _ _ _ (λ row. sig_is field_sig_of bytes layout tables.MemberRef 2 row (omega arith))
 
 -- ---- bodies

@@ -1,21 +1,21 @@
 -- A signature that was written is read again.
-use Rattle.std.proofs.Common.{◌≡◌, ◌<◌, ◌^◌, ℕ, zero, suc, Bool, true, false, List, [], ◌∷◌, ◌++◌, length, drop}
-use Rattle.std.proofs.Common.{flat_map, Option, Some, None, refl, sym, ap, ◌∙◌, append_assoc, append-nil}
-use Rattle.std.specs.Prelude.{All, is_some, IsTrue}
+use Rattle.std.proofs.Common.{◌≡◌, ◌<◌, ◌^◌, ℕ, Bool, true, false, List, [], ◌∷◌, ◌++◌, length, drop}
+use Rattle.std.proofs.Common.{flat_map, Option, Some, refl, sym, ap, ◌∙◌, append_assoc, append-nil}
+use Rattle.std.specs.Prelude.{All}
 use Rattle.std.specs.List.{AllByRecursion}
 use Rattle.std.specs.Option.{option_map, option_map_or, option_and_then}
 use Rattle.std.proofs.Math.Seq.{drop-append_seam}
 use Rattle.std.proofs.lemmas.List.Elements.{recursion_from_All}
-use Rattle.rtr_bytes.specs.Compressed.{compressed_bytes, compressed_in}
+use Rattle.rtr_bytes.specs.Compressed.{compressed_bytes}
 use Rattle.cli_assembly.specs.declared.signature.TypeSig.{TypeSig}
 use Rattle.cli_assembly.specs.declared.signature.TypeSig.TheVariants as types
 use Rattle.cli_assembly.specs.declared.signature.MethodSig.{MethodSig}
 use Rattle.cli_assembly.specs.Types.{after_number, after_type, after_type_within, before, class_in, coded_type}
 use Rattle.cli_assembly.specs.Types.{number_in, type_in, type_of, types_in}
-use Rattle.cli_assembly.specs.Signatures.{counted_types_in, field_sig_of, has_this_of, local_sig_of, method_after}
+use Rattle.cli_assembly.specs.Signatures.{field_sig_of, has_this_of, local_sig_of, method_after}
 use Rattle.cli_assembly.specs.Signatures.{method_sig, method_sig_of, params_after, whole}
 use Rattle.cli_assembly.specs.Shortest.{IsWritable, IsWritableType, coded_of_token, convention_of, field_sig_bytes}
-use Rattle.cli_assembly.specs.Shortest.{local_sig_bytes, method_sig_bytes, type_bytes, type_tag}
+use Rattle.cli_assembly.specs.Shortest.{local_sig_bytes, method_sig_bytes, type_bytes}
 use Rattle.cli_assembly.proofs.Classes.{coded_back, coded_small}
 use Rattle.cli_assembly.proofs.Compressed.{written_in}
 use Rattle.cli_assembly.proofs.ReadBack.{array_again, integer_again, object_again, string_again, void_again}

@@ -1,8 +1,8 @@
 -- Types one after the other, as the loop goes on, and what is found where no bytes are left.
-use Rattle.std.proofs.Common.{◌≡◌, ◌<◌, ℕ, zero, suc, ◌+◌, ◌-◌, List, [], ◌∷◌, ◌++◌, length, Option, Some, None, refl}
+use Rattle.std.proofs.Common.{◌≡◌, ◌<◌, ℕ, suc, ◌+◌, ◌-◌, List, [], ◌∷◌, ◌++◌, length, Option, Some, None, refl}
 use Rattle.std.proofs.Common.{sym, ap, ◌∙◌, arith, append_assoc, append-nil}
 use Rattle.std.specs.Option.{option_map, option_and_then, option_map_or}
-use Rattle.rtr_bytes.specs.Compressed.{compressed_at, compressed_in}
+use Rattle.rtr_bytes.specs.Compressed.{compressed_at}
 use Rattle.cli_assembly.specs.declared.signature.TypeSig.{TypeSig}
 use Rattle.cli_assembly.specs.declared.signature.TypeSig.TheVariants as types
 use Rattle.cli_assembly.specs.Types.{class_in, coded_type, type_in, types_in}

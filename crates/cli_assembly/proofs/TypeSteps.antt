@@ -1,5 +1,5 @@
 -- A type is read head by head: what is to come after a head, and after it what was to come before.
-use Rattle.std.proofs.Common.{◌≡◌, ◌≤◌, ◌<◌, ℕ, zero, suc, ◌+◌, ◌-◌, ◌/◌, ◌%◌, Bool, true, false, List, [], ◌∷◌, ◌++◌}
+use Rattle.std.proofs.Common.{◌≡◌, ◌≤◌, ℕ, zero, suc, ◌+◌, ◌-◌, ◌/◌, ◌%◌, Bool, true, false, List, [], ◌∷◌}
 use Rattle.std.proofs.Common.{length, Option, Some, None, IfSome, refl, sym, ap, ◌∙◌, arith, subst}
 use Rattle.std.specs.Prelude.{◌==◌, ◌||◌, if◌then◌else◌}
 use Rattle.std.specs.Option.{option_map, option_and_then}
@@ -9,9 +9,9 @@ use Rattle.cli_assembly.specs.declared.signature.TypeSig.{TypeSig}
 use Rattle.cli_assembly.specs.Types.{after_counted, after_element, after_instance, after_items, after_method}
 use Rattle.cli_assembly.specs.Types.{after_number, after_result_and_params, after_shape, after_type, after_type_within}
 use Rattle.cli_assembly.specs.Types.{is_alone, is_modifier, is_numbered, is_prefix, number_in, type_in, type_of}
-use Rattle.cli_assembly.specs.Heads.{after_all, after_pending, arguments_in, function_in, head_in, head_of, instance_in}
+use Rattle.cli_assembly.specs.Heads.{after_pending, arguments_in, function_in, head_in, head_of, instance_in}
 use Rattle.cli_assembly.specs.Heads.{no_type, one_more, one_type, params_in, pending, shape_if, so_many}
-use Rattle.cli_assembly.proofs.Bind.{bind_assoc, bind_choice, bind_same, bind_some, if_some_at, if_some_bind, if_some_choice}
+use Rattle.cli_assembly.proofs.Bind.{bind_choice, bind_same, bind_some, if_some_at, if_some_bind, if_some_choice}
 use Rattle.cli_assembly.proofs.Numbers.{NoLonger, after_number_within, items_within, number_within, shape_within}
 
 -- what comes after a head that was found
@@ -168,7 +168,7 @@ pending_within after shorter p n bytes less =
     if_some_bind (AtMost n) (AtMost n) (shape_if p.shape) (after_items after p.types bytes)
     (items_within after shorter p.types n bytes less) (λ rest smaller. shape_if_within p.shape n n rest smaller)
 
-element_within : (after : List ℕ → Option (List ℕ)) → NoLonger after → (e : ℕ) (rest : List ℕ)
+pub element_within : (after : List ℕ → Option (List ℕ)) → NoLonger after → (e : ℕ) (rest : List ℕ)
     → IfSome (after_element after e rest) (AtMost (length rest))
 element_within after shorter e rest =
     let n = length rest in
@@ -176,7 +176,7 @@ element_within after shorter e rest =
     (if_some_bind (Within (length rest)) (AtMost n) (go_on after) (head_of e rest) (head_within e rest)
     (λ found less. pending_within after shorter found.0 n found.1 (omega arith)))
 
-within_no_longer : (depth : ℕ) → NoLonger (after_type_within depth)
+pub within_no_longer : (depth : ℕ) → NoLonger (after_type_within depth)
 unfolding after_type_within
 within_no_longer zero bytes = tt
 within_no_longer (suc depth) [] = tt

@@ -133,9 +133,12 @@ abbrev pub list_end : Assembly → Table → ℕ → ℕ → ℕ
 list_end assembly listed row n =
     if nat_lt row (row_count assembly tables.TypeDef) then list_start assembly listed (row + 1) n else row_count assembly listed + 1
 
+-- the rows from one up to another
+abbrev pub rows_between : ℕ → ℕ → List ℕ
+rows_between start end = range_with_len start (end - start)
+
 abbrev pub list_rows : Assembly → Table → ℕ → ℕ → List ℕ
-list_rows assembly listed row n =
-    let start = list_start assembly listed row n in range_with_len start (list_end assembly listed row n - start)
+list_rows assembly listed row n = rows_between (list_start assembly listed row n) (list_end assembly listed row n)
 
 -- FieldList and MethodList of a TypeDef row
 unfoldable pub fields_of : Assembly → ℕ → List ℕ

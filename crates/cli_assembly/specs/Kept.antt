@@ -18,9 +18,13 @@ use Rattle.cli_assembly.specs.Checks.{method_rva, unplaced_body}
 use Rattle.cli_assembly.specs.Bodies.{body_at}
 use Rattle.cli_assembly.specs.declared.header.BodyAt.{BodyAt}
 
--- one answer for each row of a table, by its number
-abbrev pub for_rows : {X : Type 0} → Layout → ℕ → (ℕ → X) → List X
-for_rows layout table answer = map answer (range_with_len 1 (rows_of layout table))
+-- where the tables and the heaps of a file are
+abbrev pub file_layout : List ℕ → Layout
+file_layout bytes = layout_of bytes (metadata_of bytes)
+
+-- one answer for each row of a table
+abbrev pub by_row : {X : Type 0} → Layout → Table → (ℕ → X) → List X
+by_row layout table answer = map answer (range_with_len 1 (rows_of layout (table_number table)))
 
 -- the blob that a column of a row names, and what it spells; none where there is no such row or column
 abbrev pub blob_read : List ℕ → Layout → ℕ → ℕ → ℕ → Option (List ℕ)
@@ -39,10 +43,6 @@ body_fault bytes layout =
     fault_or 50 (first_in_methods layout (unplaced_body bytes layout))
     (fault_or 51 (first_in_methods layout (malformed_header bytes layout)) None)
 
--- one answer for each row of a table of a file
-abbrev pub by_row : {X : Type 0} → List ℕ → Table → (ℕ → X) → List X
-by_row bytes table answer = map answer (range_with_len 1 (rows_of (layout_of bytes (metadata_of bytes)) (table_number table)))
-
 -- the answer for a row, from 1
 unfoldable pub nth_row : {X : Type 0} → List X → ℕ → Option X
 nth_row items zero = None
@@ -57,10 +57,11 @@ pub record IsReadFrom (bytes : List ℕ) (parts : Parts) : Type 0 where
   pub small : length bytes ≤ 2 ^ 31
   pub well_formed : first_fault (assembly_checks bytes) bytes ≡ None
   pub headers : parts.pe ≡ headers_of bytes
-  pub layout : parts.metadata ≡ layout_of bytes (metadata_of bytes)
-  pub methods : parts.methods.items ≡ by_row bytes tables.MethodDef (method_signature (assembly_of bytes))
-  pub fields : parts.fields.items ≡ by_row bytes tables.Field (field_signature (assembly_of bytes))
-  pub locals : parts.locals.items ≡ by_row bytes tables.StandAloneSig (local_signature (assembly_of bytes))
-  pub member_methods : parts.member_methods.items ≡ by_row bytes tables.MemberRef (member_method_signature (assembly_of bytes))
-  pub member_fields : parts.member_fields.items ≡ by_row bytes tables.MemberRef (member_field_signature (assembly_of bytes))
-  pub bodies : parts.bodies.items ≡ by_row bytes tables.MethodDef (placed_in bytes (layout_of bytes (metadata_of bytes)))
+  pub layout : parts.metadata ≡ file_layout bytes
+  pub methods : parts.methods.items ≡ by_row (file_layout bytes) tables.MethodDef (method_signature (assembly_of bytes))
+  pub fields : parts.fields.items ≡ by_row (file_layout bytes) tables.Field (field_signature (assembly_of bytes))
+  pub locals : parts.locals.items ≡ by_row (file_layout bytes) tables.StandAloneSig (local_signature (assembly_of bytes))
+  pub member_methods : parts.member_methods.items
+      ≡ by_row (file_layout bytes) tables.MemberRef (member_method_signature (assembly_of bytes))
+  pub member_fields : parts.member_fields.items ≡ by_row (file_layout bytes) tables.MemberRef (member_field_signature (assembly_of bytes))
+  pub bodies : parts.bodies.items ≡ by_row (file_layout bytes) tables.MethodDef (placed_in bytes (file_layout bytes))

@@ -9,7 +9,7 @@ use Rattle.metadata.specs.declared.schema.ColumnKind.{ColumnKind}
 use Rattle.metadata.specs.declared.schema.ColumnKind.TheVariants as columns
 use Rattle.metadata.specs.Schema.{columns_of, table_number}
 use Rattle.metadata.specs.Checks.{kind_of}
-use Rattle.cli_assembly.specs.Assemblies.{Assembly, blob_at, coded_token, column, row_count, string_at}
+use Rattle.cli_assembly.specs.Assemblies.{Assembly, blob_at, coded_token, column, list_end, list_start, row_count, string_at}
 use Rattle.cli_assembly.specs.Checks.{assembly_checks}
 
 -- a text, or a blob; nothing is said of the index of a GUID
@@ -37,6 +37,16 @@ AreNamed assembly = (table : Table) (row n : ℕ) → 1 ≤ row → row ≤ row_
 pub record IsOneAssembly (assembly : Assembly) : Type 0 where
   pub one_module : row_count assembly tables.Module ≡ 1
   pub one_manifest : row_count assembly tables.Assembly ≡ 1
+
+-- the list of each type ends where it begins or after, and in the listed table or at its end: no row is of two types
+abbrev pub Ascends : Assembly → Table → ℕ → Type 0
+Ascends assembly listed n = (row : ℕ) → (list_start assembly listed row n ≤ list_end assembly listed row n)
+    × (list_end assembly listed row n ≤ row_count assembly listed + 1)
+
+-- FieldList and MethodList of TypeDef (II.22.37)
+pub record ListsAscend (assembly : Assembly) : Type 0 where
+  pub fields : Ascends assembly tables.Field 4
+  pub methods : Ascends assembly tables.MethodDef 5
 
 -- the bytes pass all checks of an assembly
 abbrev pub IsWellFormed : List ℕ → Type 0

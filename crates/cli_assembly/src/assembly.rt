@@ -1,11 +1,10 @@
 //! An assembly, read whole.
 
-ghost use Rattle.std.specs.Prelude.{◌≡◌, ◌≤◌, ◌^◌, None, Some, length, option_copied, IfErr, IfOk, OnOk};
+ghost use Rattle.std.specs.Prelude.{◌≡◌, ◌≤◌, ◌+◌, ◌^◌, None, Some, length, option_copied, IfErr, IfOk, IfSome, OnOk};
 ghost use Rattle.std.specs.Option.{option_map};
 ghost use Rattle.rtr_bytes.specs.Checks.{RefusedBy, first_fault};
 ghost use Rattle.pe_image.specs.Headers.{headers_of};
 ghost use Rattle.metadata.specs.declared.schema.Table.TheVariants as tables;
-ghost use Rattle.metadata.specs.Tables.{layout_of};
 ghost use Rattle.cli_assembly.specs.Assemblies.{
   assembly_name,
   assembly_of,
@@ -18,8 +17,8 @@ ghost use Rattle.cli_assembly.specs.Assemblies.{
   placed_in,
 };
 ghost use Rattle.cli_assembly.specs.Bodies.{with_code};
-ghost use Rattle.cli_assembly.specs.Checks.{assembly_checks, metadata_of};
-ghost use Rattle.cli_assembly.specs.Kept.{answer_of, by_row, nth_row};
+ghost use Rattle.cli_assembly.specs.Checks.{assembly_checks};
+ghost use Rattle.cli_assembly.specs.Kept.{answer_of, by_row, file_layout, nth_row};
 ghost use Rattle.cli_assembly.specs.Named.{IsWellFormed};
 
 use crate::body::Body;
@@ -111,7 +110,8 @@ impl Assembly {
 
     /// Where the tables and the heaps are.
     pub fn metadata(&self) -> &Metadata
-        ensures { result.now ≡ layout_of self.now (metadata_of self.now) }
+        ensures layout { result.now ≡ file_layout self.now }
+        ensures well_formed { IsWellFormed self.now }
     {
         &self.parts.metadata
     }
@@ -120,11 +120,9 @@ impl Assembly {
     pub fn name(&self) -> &str
         ensures { Some result.now ≡ assembly_name (assembly_of self.now) }
     {
-        let metadata = &self.parts.metadata;
-        let column = metadata.column(&self.bytes, Table::Assembly.number(), 1, ASSEMBLY_NAME);
-        metadata
-            .string(&self.bytes, column.unwrap_or(0))
-            .unwrap_or("")
+        let at = self.column(Table::Assembly, 1, ASSEMBLY_NAME);
+        let text = self.metadata().string(self.bytes(), at);
+        text.unwrap_or("")
     }
 
     /// The signature of the method of a MethodDef row, from 1. `None` exactly where there is no such row, or its blob spells no
@@ -143,11 +141,12 @@ impl Assembly {
         answer_of(&self.parts.fields, row).copied()
     }
 
-    /// The body of the method of a MethodDef row, from 1, with its code as a range of the file. `None` exactly where there is no
-    /// such row, its RVA is 0, or its low three ImplFlags are not 0.
+    /// The body of the method of a MethodDef row, from 1, with its code as a range that is in the file. `None` exactly where there
+    /// is no such row, its RVA is 0, or its low three ImplFlags are not 0.
     pub fn body(&self, row: u32) -> Option<Body>
         ensures body { option_map (with_code self.now) result ≡ body_of (assembly_of self.now) row }
-        ensures placed { result ≡ answer_of (by_row self.now tables.MethodDef (placed_in self.now (layout_of self.now (metadata_of self.now)))) row }
+        ensures placed { result ≡ answer_of (by_row (file_layout self.now) tables.MethodDef (placed_in self.now (file_layout self.now))) row }
+        ensures inside { IfSome result (λ body. body.code.start + body.code.len ≤ length self.now) }
     {
         answer_of(&self.parts.bodies, row).copied()
     }

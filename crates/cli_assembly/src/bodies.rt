@@ -4,12 +4,14 @@ ghost use Rattle.std.specs.Prelude.{◌≡◌, ◌≤◌, ◌<◌, ◌^◌, None
 ghost use Rattle.std.specs.Option.{option_and_then};
 ghost use Rattle.rtr_bytes.specs.Checks.{RefusedBy};
 ghost use Rattle.pe_image.specs.Headers.{headers_of};
+ghost use Rattle.metadata.specs.declared.schema.Table.TheVariants as tables;
 ghost use Rattle.metadata.specs.Checks.{or_else};
+ghost use Rattle.metadata.specs.Schema.{table_number};
 ghost use Rattle.metadata.specs.Tables.{column_of, rows_of};
 ghost use Rattle.cli_assembly.specs.Assemblies.{placed_in};
 ghost use Rattle.cli_assembly.specs.Bodies.{placed_body};
 ghost use Rattle.cli_assembly.specs.Checks.{malformed_header, place_if_malformed, place_if_unplaced, unplaced_body};
-ghost use Rattle.cli_assembly.specs.Kept.{body_fault, for_rows, row_header};
+ghost use Rattle.cli_assembly.specs.Kept.{body_fault, by_row, row_header};
 
 use crate::body::Body;
 use crate::check::Check;
@@ -36,7 +38,7 @@ struct RowBody {
 /// The number in a column of a row of MethodDef; 0 where there is no such row.
 fn method_column(bytes: &[u8], metadata: &Metadata, row: u32, column: u8) -> u32
     requires small { length bytes.now ≤ 2 ^ 31 }
-    ensures { result ≡ unwrap_or (column_of bytes.now metadata.now 6 row column) 0 }
+    ensures { result ≡ unwrap_or (column_of bytes.now metadata.now (table_number tables.MethodDef) row column) 0 }
 {
     metadata
         .column(bytes, Table::MethodDef.number(), row, column)
@@ -48,7 +50,7 @@ fn row_header(bytes: &[u8], pe: &Pe, metadata: &Metadata, row: u32) -> Option<Bo
     requires small { length bytes.now ≤ 2 ^ 31 }
     requires pe { pe.now ≡ headers_of bytes.now }
     requires first { 1 ≤ row }
-    requires last { row ≤ rows_of metadata.now 6 }
+    requires last { row ≤ rows_of metadata.now (table_number tables.MethodDef) }
     ensures { result ≡ row_header bytes.now metadata.now row }
 {
     let rva = method_column(bytes, metadata, row, RVA);
@@ -85,7 +87,7 @@ fn row_body(bytes: &[u8], pe: &Pe, metadata: &Metadata, row: u32) -> Result<RowB
     requires small { length bytes.now ≤ 2 ^ 31 }
     requires pe { pe.now ≡ headers_of bytes.now }
     requires first { 1 ≤ row }
-    requires last { row ≤ rows_of metadata.now 6 }
+    requires last { row ≤ rows_of metadata.now (table_number tables.MethodDef) }
     ensures fault { IfErr result (λ f. (f.check ≡ 50) × (unplaced_body bytes.now metadata.now row ≡ Some f.place)) }
     ensures placed { OnOk result (unplaced_body bytes.now metadata.now row ≡ None) }
     ensures body { IfOk result (λ found. found.body ≡ placed_in bytes.now metadata.now row) }
@@ -118,7 +120,7 @@ pub(crate) fn read_bodies(
     requires pe { pe.now ≡ headers_of bytes.now }
     ensures malformed { IfErr result (λ e. RefusedBy (body_fault bytes.now metadata.now) e) }
     ensures well_formed { OnOk result (body_fault bytes.now metadata.now ≡ None) }
-    ensures bodies { IfOk result (λ bodies. bodies.items ≡ for_rows metadata.now 6 (placed_in bytes.now metadata.now)) }
+    ensures bodies { IfOk result (λ bodies. bodies.items ≡ by_row metadata.now tables.MethodDef (placed_in bytes.now metadata.now)) }
 {
     let mut bodies = Vec::new(alloc);
     let mut malformed = None;

@@ -15,6 +15,7 @@ mod element_types;
 mod flags;
 mod header;
 mod laws;
+mod lookups;
 mod parts;
 mod pending;
 mod reading;
@@ -28,13 +29,13 @@ mod writing;
 
 pub use assembly::Assembly;
 pub use body::Body;
-pub use column_laws::{columns_are_named, one_module_and_manifest};
+pub use column_laws::{columns_are_named, lists_ascend, one_module_and_manifest};
 pub use element::{ELEMS, Elem};
 pub use flags::{
     FIELD_LITERAL, FIELD_STATIC, METHOD_ABSTRACT, METHOD_NEW_SLOT, METHOD_STATIC, METHOD_VIRTUAL,
     TYPE_ABSTRACT, TYPE_EXPLICIT_LAYOUT, TYPE_INTERFACE,
 };
-pub use laws::signatures_are_read_back;
+pub use laws::{signatures_are_read_back, signatures_are_shortest};
 pub use signature::{MethodSig, Params, TypeSig};
 pub use writing::{write_field_sig, write_local_sig, write_method_sig};
 

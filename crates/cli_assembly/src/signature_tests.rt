@@ -22,6 +22,7 @@ const SIGNATURES: &str = "00010808 = false Int(I4) [Int(I4)]
 600001 = None
 061c = Object
 061209 = Class(16777218)
+06128009 = Class(16777218)
 06128084 = Class(33554465)
 061207 = Outside
 061d0e = Outside

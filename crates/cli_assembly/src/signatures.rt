@@ -2,7 +2,7 @@
 
 ghost use Rattle.std.specs.Prelude.{◌≡◌, ◌≤◌, ◌^◌, length, option_copied, IfOk, IfSome};
 ghost use Rattle.metadata.specs.Schema.{table_number};
-ghost use Rattle.cli_assembly.specs.Kept.{blob_read, for_rows, sig_read};
+ghost use Rattle.cli_assembly.specs.Kept.{blob_read, by_row, sig_read};
 ghost use Rattle.cli_assembly.specs.Signatures.{field_sig_of, local_sig_of, method_sig_of};
 
 use crate::reading::{field_sig, local_sig, method_sig};
@@ -132,7 +132,7 @@ pub(crate) fn read_method_sigs(
     room: &mut SignatureRoom,
 ) -> Result<Vec<Option<MethodSig>>, NoMemory>
     requires small { length bytes.now ≤ 2 ^ 31 }
-    ensures { IfOk result (λ sigs. sigs.items ≡ for_rows metadata.now (table_number signature.table)
+    ensures { IfOk result (λ sigs. sigs.items ≡ by_row metadata.now signature.table
         (sig_read method_sig_of bytes.now metadata.now (table_number signature.table) signature.column)) }
 {
     let mut sigs = Vec::new(alloc);
@@ -151,7 +151,7 @@ pub(crate) fn read_field_sigs(
     room: &mut SignatureRoom,
 ) -> Result<Vec<Option<TypeSig>>, NoMemory>
     requires small { length bytes.now ≤ 2 ^ 31 }
-    ensures { IfOk result (λ sigs. sigs.items ≡ for_rows metadata.now (table_number signature.table)
+    ensures { IfOk result (λ sigs. sigs.items ≡ by_row metadata.now signature.table
         (sig_read field_sig_of bytes.now metadata.now (table_number signature.table) signature.column)) }
 {
     let mut sigs = Vec::new(alloc);
@@ -170,7 +170,7 @@ pub(crate) fn read_local_sigs(
     room: &mut SignatureRoom,
 ) -> Result<Vec<Option<Sequence<TypeSig>>>, NoMemory>
     requires small { length bytes.now ≤ 2 ^ 31 }
-    ensures { IfOk result (λ sigs. sigs.items ≡ for_rows metadata.now (table_number signature.table)
+    ensures { IfOk result (λ sigs. sigs.items ≡ by_row metadata.now signature.table
         (sig_read local_sig_of bytes.now metadata.now (table_number signature.table) signature.column)) }
 {
     let mut sigs = Vec::new(alloc);

@@ -1,6 +1,7 @@
 //! A small assembly that is read whole, and the checks of its bodies.
 
 use super::*;
+use metadata::{CodedKind, Table};
 use std::alloc::Global;
 use std::test::Fail;
 
@@ -54,6 +55,10 @@ const WHOLE: &str = "Name 6000001 1
 4: none; None; none; None; None; 1 0 448+1 true
 5: false Void []; None; none; None; None; none
 6: none; None; none; None; None; none";
+
+/// What is looked up: rows, a column, a text, a blob, a user string, a token, a type's fields and methods, and a code.
+const LOOKED_UP: &str =
+    "5 12 Some(\"T\") Some([6, 8]) Some([97, 0]) Some(33554434) 1..4 1..6 Some([6, 42])";
 
 /// The file with some bytes written over it.
 fn file_with(alloc: Global, changes: &str) -> Result<Vec<u8>, Fail> {
@@ -145,5 +150,27 @@ fn reads_whole(rt: HostRuntime) -> Result<(), Fail> {
         text.push_str(row_text(alloc, &assembly, row)?.as_str())?;
     }
     assert_eq!(rt; text.as_str(), WHOLE);
+    Ok(())
+}
+
+#[test]
+fn looks_up(rt: HostRuntime) -> Result<(), Fail> {
+    let alloc = rt.alloc();
+    let bytes = file_with(alloc, "")?;
+    assert!(rt; bytes.len() == 848);
+    let assembly = Assembly::read(alloc, bytes)?;
+    let rows = assembly.rows(Table::MethodDef);
+    let name = assembly.column(Table::TypeDef, 2, 1);
+    let text = assembly.string(name);
+    let blob = assembly.blob(1);
+    let string = assembly.user_string(1);
+    let token = assembly.coded(CodedKind::TypeDefOrRef, 8);
+    let (fields, methods) = (assembly.fields(2), assembly.methods(2));
+    let code = assembly.code(2);
+    let all = format!(in alloc;
+        "{rows} {name} {text:?} {blob:?} {string:?} {token:?} {}..{} {}..{} {code:?}",
+        fields.start, fields.end, methods.start, methods.end
+    )?;
+    assert_eq!(rt; all.as_str(), LOOKED_UP);
     Ok(())
 }

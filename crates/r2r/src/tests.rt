@@ -30,6 +30,15 @@ method 06000002 G
 method 06000003 ?H 200001
 ";
 
+/// The same where D has no method.
+const ALL_OF_THE_FIRST_TYPE: &str = "assembly A
+type 02000001 A.C
+method 06000001 F 00010808
+method 06000002 G 
+method 06000003 ?H 200001
+type 02000002 D
+";
+
 /// The text up to the lines of the assembly, as are those below.
 const PLAIN_TEXT: &str =
     "file T 1536\nmachine aa64 magic 020b\n.text rva 00001000 size 00000400 file 00000200 raw 00000400\ncli flags 00000001 entry 00000000\nnative none\n";
@@ -223,6 +232,8 @@ fn well_formed_files(rt: HostRuntime) -> Result<(), Fail> {
     let alloc = rt.alloc();
     for (front, changes, text) in [
         ("", "", PLAIN_TEXT),
+        // A MethodList of 0 begins at row 1.
+        ("", "@1166 00", PLAIN_TEXT),
         ("", FOREIGN, FOREIGN_TEXT),
         ("", OWN, OWN_TEXT),
         (IMAGE, "", IMAGE_TEXT),
@@ -232,7 +243,10 @@ fn well_formed_files(rt: HostRuntime) -> Result<(), Fail> {
     ] {
         expect_text(&rt, alloc, front, changes, text)?;
     }
-    Ok(())
+    // A MethodList after the last row: all methods are those of the type before.
+    let bytes = file_of(alloc, 1536, &[LEAST, ASSEMBLY, "@1180 04"])?;
+    let text = format!(in alloc; "{PLAIN_TEXT}{ALL_OF_THE_FIRST_TYPE}")?;
+    expect(&rt, alloc, "dump T", bytes, 0, text.as_str())
 }
 
 /// Changes of the assembly, each with the check that fails then and its place.
@@ -268,10 +282,13 @@ const BROKEN: &str = "@0 4e = check 2 at 0
 @1131 01 = check 39 at 1128
 @1132 ff = check 40 at 1104
 @1128 00 = check 41 at 1112
+@1140 00 = check 41 at 1112
 @1146 ff = check 42 at 1146
+@1180 05 = check 42 at 1180
 @1166 03 = check 43 at 1180
 @1183 50 = check 50 at 1182
 @1276 08 = check 51 at 1276
+@1276 03 = check 51 at 1276
 @576 0050000010 @1024 43 = check 16 at 576";
 
 /// Changes of the image, each with the check that fails then and its place.
@@ -312,7 +329,8 @@ const CUT: &str = "0 = check 1 at 0
 63 = check 1 at 63
 100 = check 6 at 84
 400 @60 80 @128 50450000 @134 03 @148 e0 @152 0b01 @244 10 = check 10 at 134
-1024 = check 30 at 584";
+1024 = check 30 at 584
+1024 @576 0011000010 @768 525452000500 = check 30 at 584";
 
 /// Dumps a file with changes over it, and expects the line of its fault.
 fn expect_fault<R: Threads + Sync + Abort>(

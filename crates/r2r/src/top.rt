@@ -19,7 +19,8 @@ use std::thread::Threads;
 ///
 /// The status is 0 where all was written; 1 where the words are no command; 2 where a file could not be read; 3
 /// where a file is malformed; 4 where a named condition refuses: the file is above `rtr_outside::FILE_LIMIT`; 5
-/// where the output failed; 7 where memory was refused, and then nothing was written.
+/// where the output failed; 7 where memory was refused, or a file's signatures are too long together
+/// (`cli_assembly::Assembly::read`), and then nothing was written.
 pub fn r2r<R: Threads + Sync, F: Files, S: Sink, G: Gate>(
     _rt: &R,
     alloc: Global,

@@ -5,5 +5,5 @@ pub mod Parts
 pub mod SlotsOfSections
 pub mod Lowest
 pub mod Listed
-pub mod RowsOfFile
+pub mod Texts
 mod Examples

@@ -12,9 +12,9 @@ ghost use Rattle.cli_assembly.specs.Checks.{assembly_checks};
 ghost use Rattle.r2rdump.specs.OnePass.{text_in_one_pass};
 ghost use Rattle.r2rdump.specs.Dump.{file_fault, lower, native_image_of, dump_text, IsRefused};
 
-use crate::rows::method_count;
 use crate::text::Text;
 use cli_assembly::Assembly;
+use metadata::Table;
 use pe_image::Pe;
 use rtr_bytes::{Fault, NoMemory, ReadRefusal};
 use rtr_outside::{Sink, SinkFailed, write_all};
@@ -34,7 +34,7 @@ pub enum DumpRefusal {
     /// The sink had a fault, and has the text up to some byte.
     #[error("the write failed")]
     SinkFailed,
-    /// Memory was refused. Nothing was written.
+    /// Memory was refused, or the assembly's signatures are too long together ([`Assembly::read`]). Nothing was written.
     #[error("out of memory")]
     NoMemory,
 }
@@ -120,7 +120,6 @@ fn printed(
     image: &Option<Image>,
     assembly: &Assembly,
 ) -> Result<Text, NoMemory>
-    requires small { length assembly.now ≤ 2 ^ 31 }
     requires spellable { IfSome image.now (λ image. All (λ slot. IsSpellable slot.fixup) image.slots) }
     ensures { IfOk result (λ text. text ≡ text_in_one_pass name.now (length assembly.now) pe.now image.now (assembly_of assembly.now)) }
 {
@@ -141,7 +140,7 @@ fn text_of(alloc: Global, name: &str, bytes: &[u8]) -> Result<Text, ReadRefusal>
 {
     let pe = Pe::read(alloc, bytes)?;
     let assembly = read_assembly(alloc, &pe, bytes)?;
-    let image = read_image(alloc, &pe, bytes, method_count(&assembly))?;
+    let image = read_image(alloc, &pe, bytes, assembly.rows(Table::MethodDef))?;
     let text = printed(alloc, name, &pe, &image, &assembly)?;
     Ok(text)
 }
@@ -149,7 +148,7 @@ fn text_of(alloc: Global, name: &str, bytes: &[u8]) -> Result<Text, ReadRefusal>
 /// Prints the records of a file, given its name and its bytes, of which there are at most 2^31. The text is made whole
 /// before any of it is written. `Malformed` names the first of the checks 1 to 14, 16 to 22, 30 to 43, 50, 51 and, of an
 /// image of this compiler, 60 to 66 that fails, with its file offset; `SinkFailed` comes where the sink has a fault, and
-/// `NoMemory` where memory is refused.
+/// `NoMemory` where memory is refused, or the assembly's signatures are too long together ([`Assembly::read`]).
 pub fn dump_text<S: Sink>(
     alloc: Global,
     name: &str,

@@ -1,19 +1,19 @@
 //! The lines of the assembly: its name, and each type with its methods.
 
-ghost use Rattle.std.specs.Prelude.{◌≡◌, ◌++◌, ◌≤◌, ◌^◌, OnOk, length};
+ghost use Rattle.std.specs.Prelude.{◌≡◌, ◌++◌, OnOk};
 ghost use Rattle.std.specs.List.{flat_map, range_with_len};
 ghost use Rattle.metadata.specs.declared.schema.Table.TheVariants as tables;
 ghost use Rattle.cli_assembly.specs.Assemblies.{assembly_of, methods_of, row_count};
 ghost use Rattle.r2rdump.specs.Types.{assembly_line, assembly_lines, before_name, method_line, type_line, type_lines, type_token};
 
 use crate::image::method_token;
-use crate::rows::{
-    last_method, method_blob, method_text, row_before_methods, type_count, type_text,
-};
+use crate::rows::{row_blob, row_text};
 use crate::text::Text;
 use cli_assembly::Assembly;
+use metadata::Table;
 use rtr_bytes::NoMemory;
 use std::alloc::Global;
+use std::ops::Range;
 
 /// The table of TypeDef in the top byte of its tokens (ECMA-335 II.22.37).
 const TYPE_DEF: u32 = 0x0200_0000;
@@ -46,40 +46,39 @@ impl Text {
     }
 
     fn type_line(&mut self, assembly: &Assembly, row: u32) -> Result<(), NoMemory>
-        requires { length assembly.now ≤ 2 ^ 31 }
         ensures { OnOk result (self.new ≡ self.old ++ type_line (assembly_of assembly.now) row) }
     {
         self.hex32("type ", type_token(row))?;
         self.words(" ")?;
-        self.namespace(type_text(assembly, row, TYPE_NAMESPACE))?;
-        self.name("", type_text(assembly, row, TYPE_NAME))?;
+        let namespace = row_text(assembly, Table::TypeDef, row, TYPE_NAMESPACE);
+        self.namespace(namespace)?;
+        let name = row_text(assembly, Table::TypeDef, row, TYPE_NAME);
+        self.name("", name)?;
         self.words("\n")
     }
 
     fn method_line(&mut self, alloc: Global, assembly: &Assembly, row: u32) -> Result<(), NoMemory>
-        requires { length assembly.now ≤ 2 ^ 31 }
         ensures { OnOk result (self.new ≡ self.old ++ method_line (assembly_of assembly.now) row) }
     {
         self.hex32("method ", method_token(row))?;
-        self.name(" ", method_text(assembly, row, METHOD_NAME))?;
-        self.hex(alloc, " ", method_blob(assembly, row, METHOD_SIGNATURE))?;
+        let name = row_text(assembly, Table::MethodDef, row, METHOD_NAME);
+        self.name(" ", name)?;
+        let signature = row_blob(assembly, Table::MethodDef, row, METHOD_SIGNATURE);
+        self.hex(alloc, " ", signature)?;
         self.words("\n")
     }
 
     fn method_lines(&mut self, alloc: Global, assembly: &Assembly, row: u32) -> Result<(), NoMemory>
-        requires { length assembly.now ≤ 2 ^ 31 }
         ensures { OnOk result (self.new ≡ self.old ++ flat_map (method_line (assembly_of assembly.now)) (methods_of (assembly_of assembly.now) row)) }
     {
-        let first = row_before_methods(assembly, row);
-        let last = last_method(assembly, row);
-        for before in first..last {
-            self.method_line(alloc, assembly, before + 1)?;
+        let Range { start, end } = assembly.methods(row);
+        for method in start..end {
+            self.method_line(alloc, assembly, method)?;
         }
         Ok(())
     }
 
     fn type_lines(&mut self, alloc: Global, assembly: &Assembly, row: u32) -> Result<(), NoMemory>
-        requires { length assembly.now ≤ 2 ^ 31 }
         ensures { OnOk result (self.new ≡ self.old ++ type_lines (assembly_of assembly.now) row) }
     {
         self.type_line(assembly, row)?;
@@ -87,13 +86,12 @@ impl Text {
     }
 
     fn all_type_lines(&mut self, alloc: Global, assembly: &Assembly) -> Result<(), NoMemory>
-        requires { length assembly.now ≤ 2 ^ 31 }
         ensures { OnOk result (self.new ≡ self.old ++ flat_map (type_lines (assembly_of assembly.now))
             (range_with_len 1 (row_count (assembly_of assembly.now) tables.TypeDef))) }
     {
-        let last = type_count(assembly);
-        for before in 0..last {
-            self.type_lines(alloc, assembly, before + 1)?;
+        let end = assembly.rows(Table::TypeDef) + 1;
+        for row in 1..end {
+            self.type_lines(alloc, assembly, row)?;
         }
         Ok(())
     }
@@ -112,7 +110,6 @@ impl Text {
         alloc: Global,
         assembly: &Assembly,
     ) -> Result<(), NoMemory>
-        requires { length assembly.now ≤ 2 ^ 31 }
         ensures { OnOk result (self.new ≡ self.old ++ assembly_lines (assembly_of assembly.now)) }
     {
         self.assembly_line(assembly)?;

@@ -19,7 +19,7 @@ pub returns-in_err-image-clause-malformed : goal.returns-in_err-image-clause-mal
 returns-in_err-image-clause-malformed c =
     let p = err_from_is_err_and c.from_residual-in_err-image.result c.from_residual-in_err-image.ensures.1 in
     rw (p.1, p.2) (subst (λ (o : Option Fault). RefusedBy o c.in_err-image.field-0.0)
-    (sym (read_with c.args.bytes.now c.in_ok-assembly.assembly c.method_count.result c.in_ok-assembly.ensures.bytes c.method_count.ensures
+    (sym (read_with c.args.bytes.now c.in_ok-assembly.assembly c.rows.result c.in_ok-assembly.ensures.bytes c.rows.ensures.rows
     c.in_ok-assembly.ensures.well_formed))
     c.in_err-image.ensures.malformed)
 
@@ -30,7 +30,7 @@ returns-in_err-text-clause-malformed c =
 
 pub returns-clause-well_formed : goal.returns-clause-well_formed
 returns-clause-well_formed c =
-    read_with c.args.bytes.now c.in_ok-assembly.assembly c.method_count.result c.in_ok-assembly.ensures.bytes c.method_count.ensures
+    read_with c.args.bytes.now c.in_ok-assembly.assembly c.rows.result c.in_ok-assembly.ensures.bytes c.rows.ensures.rows
     c.in_ok-assembly.ensures.well_formed
     ∙ c.in_ok-image.ensures.well_formed
 
@@ -43,4 +43,4 @@ returns-clause-text c =
     ∙ ap (λ (file : List ℕ). text_in_one_pass name (length file) c.in_ok-pe.pe image (assembly_of file)) c.in_ok-assembly.ensures.bytes
     ∙ ap (λ (t : Headers). text_in_one_pass name (length bytes) t image (assembly_of bytes)) c.in_ok-pe.ensures.headers
     ∙ ap (λ (t : Option Image). text_in_one_pass name (length bytes) (headers_of bytes) t (assembly_of bytes)) c.in_ok-image.ensures.image
-    ∙ one_pass-is c.method_count.result name bytes c.in_ok-image.ensures.well_formed
+    ∙ one_pass-is c.rows.result name bytes c.in_ok-image.ensures.well_formed

@@ -1,12 +1,11 @@
 use Rattle.std.proofs.Common.{◌≡◌, ◌++◌}
 use Rattle.std.specs.List.{flat_map}
-use Rattle.cli_assembly.specs.Assemblies.{assembly_of, methods_of}
+use Rattle.cli_assembly.specs.Assemblies.{assembly_of, methods_of, rows_between}
 use Rattle.r2rdump.specs.Types.{method_line}
-use Rattle.r2rdump.proofs.Listed.{rows_left}
 use Rattle.r2rdump.proofs.text.Text.method_lines.Given as goal
 
 -- what was printed and the lines of the methods that are left are all
-abbrev pub invariant-loop-before : goal.invariant-loop-before
-invariant-loop-before l =
-    l.self ++ flat_map (method_line (assembly_of l.assembly)) (rows_left l.before l.last)
+abbrev pub invariant-loop-method : goal.invariant-loop-method
+invariant-loop-method l =
+    l.self ++ flat_map (method_line (assembly_of l.assembly)) (rows_between l.method l.end)
     ≡ l.fn.self ++ flat_map (method_line (assembly_of l.assembly)) (methods_of (assembly_of l.assembly) l.row)
