@@ -16,12 +16,12 @@ use Rattle.asm_builder.specs.Cells.{type_ref_cells, bodies_rva}
 use Rattle.asm_builder.specs.Sound.{IsSound, are_few, rows_asked}
 
 -- each table is one of 64
-few : (table : Table) → table_number table < 64
-few tables.Module = omega arith
-few table = omega arith
+pub table_below : (table : Table) → table_number table < 64
+table_below tables.Module = omega arith
+table_below table = omega arith
 
 -- by cases on the table, each by computation
-in_built : (asked : Asked) (table : Table) → cells_in built_tables asked (table_number table) ≡ cells_of asked table
+pub in_built : (asked : Asked) (table : Table) → cells_in built_tables asked (table_number table) ≡ cells_of asked table
 in_built asked tables.Module = refl
 in_built asked table = refl
 
@@ -30,7 +30,7 @@ unfolding tables_of
 cells_at asked number small = get_or-map-range_with_len (cells_in built_tables asked) 0 64 number number [] small (omega arith)
 
 pub cells_are : (asked : Asked) (table : Table) → get_or (tables_of asked) (table_number table) [] ≡ cells_of asked table
-cells_are asked table = cells_at asked (table_number table) (few table) ∙ in_built asked table
+cells_are asked table = cells_at asked (table_number table) (table_below table) ∙ in_built asked table
 
 pub count_is : (asked : Asked) → length (tables_of asked) ≡ 64
 unfolding tables_of

@@ -44,5 +44,12 @@ pub mod RowsBuilt
 pub mod BuiltLists
 pub mod BuiltRecord
 pub mod Built
-pub mod Evaluated
-mod UserStrings
+pub mod OneRow
+pub mod Steps
+pub mod Grown
+pub mod TypesLen
+pub mod OwnedMore
+pub mod SoundCalls
+pub mod CountsWith
+pub mod SoundMethods
+pub mod Booleans

@@ -6,3 +6,4 @@ pub mod Room
 pub mod Numbers
 pub mod File
 pub mod Built
+pub mod Tested

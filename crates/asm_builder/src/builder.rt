@@ -1,6 +1,6 @@
 //! The builder and its calls.
 
-ghost use Rattle.std.specs.Prelude.{◌≡◌, ◌+◌, ◌*◌, ◌^◌, ◌<◌, length, IfOk, OnOk, OnErr};
+ghost use Rattle.std.specs.Prelude.{◌≡◌, ◌+◌, ◌*◌, ◌^◌, ◌<◌, ◌≤◌, length, IfOk, OnOk, OnErr};
 ghost use Rattle.metadata.specs.declared.schema.Table.TheVariants as tables;
 ghost use Rattle.rtr_bytes.specs.Compressed.{compressed_bytes};
 ghost use Rattle.metadata.specs.Heaps.{token};
@@ -30,8 +30,9 @@ fn last_token(table: Table, rows: usize) -> u32
 }
 
 /// How many bytes the shortest spelling of a length has.
-fn compressed_len(value: u32) -> u32
-    ensures { result ≡ length (compressed_bytes value) }
+pub(crate) fn compressed_len(value: u32) -> u32
+    ensures len { result ≡ length (compressed_bytes value) }
+    ensures few { result ≤ 4 }
 {
     if value < 0x80 {
         1
@@ -43,7 +44,7 @@ fn compressed_len(value: u32) -> u32
 }
 
 /// How many bytes a user string has in its heap.
-fn user_string_len(units: usize) -> u32
+pub(crate) fn user_string_len(units: usize) -> u32
     requires { units < 2 ^ 28 }
     ensures { result ≡ length (compressed_bytes (2 * units + 1)) + (2 * units + 1) }
 {

@@ -49,7 +49,7 @@ fn tag_in(tagged: &[CodedTable], kind: CodedKind, table: u32) -> u32
 }
 
 /// The coded index of a token.
-fn coded_index(kind: CodedKind, token: u32) -> u32
+pub(crate) fn coded_index(kind: CodedKind, token: u32) -> u32
     ensures { result ≡ coded_index kind token }
 {
     (token % TOKEN_ROWS << kind.tag_bits()) + tag_in(&CODED_TABLES, kind, token / TOKEN_ROWS)
@@ -410,7 +410,7 @@ fn one(alloc: Global, row: Row) -> Result<Rows, NoMemory>
 }
 
 /// Whether a method has a row of StandAloneSig.
-fn has_locals(m: &Method) -> bool
+pub(crate) fn has_locals(m: &Method) -> bool
     ensures { result ≡ has_locals m.now }
 {
     !m.code.is_empty() && !m.locals.is_empty()

@@ -1,58 +1,115 @@
--- How the dump of a file ends, from how its parts end.
-use Rattle.std.proofs.Common.{◌≡◌, ◌≤◌, ℕ, suc, List, [], ◌∷◌, ◌++◌, length, Option, Some, Result, Ok, Err, MatchResult}
-use Rattle.std.proofs.Common.{IfOk, ◌⊎◌, inl, inr, refl, ◌∙◌, subst, take}
+-- How a command ends, from how its parts end.
+use Rattle.std.proofs.Common.{◌≡◌, ℕ, List, [], ◌∷◌, ◌++◌, inl, inr, take, Contains, Option, Some, None}
+use Rattle.std.proofs.Common.{refl, sym, ap, subst, ◌∙◌, arith, append-nil}
+use Rattle.std.proofs.Common.{Vec, map, vec_items, get_or}
+use Rattle.std.proofs.lemmas.List.Elements.{Contains-append_right}
+use Rattle.std.specs.Global.{Global}
 use Rattle.rtr_bytes.specs.declared.fault.Fault.{Fault}
-use Rattle.rtr_outside.specs.Files.{Contents, Call, Read, IsKnownAs, IsKnownLonger, file_limit}
+use Rattle.rtr_outside.specs.Files.{Contents, Call, Read}
 use Rattle.rtr_outside.specs.Sink.{Appends, Rose}
 use Rattle.r2rdump.specs.Dump.{file_fault, IsUntouched}
-use Rattle.r2r.specs.Outcome.{read_failed_line, malformed_line, too_long_line, Prints, Ends, ReadFailed, TooLong}
-use Rattle.r2r.specs.Outcome.{WasRead, BytesEnd, DumpEnds}
+use Rattle.r2r.specs.Command.{Command, Dump, inputs}
+use Rattle.r2r.specs.Outside.{Outside, seen, written_of, faults_of, CutsShort}
+use Rattle.r2r.specs.Reading.{Reading, OverMost, Failed, OverLimit, AllRead, ComesTo, IsReached}
+use Rattle.r2r.specs.Inputs.{IsStoppedBy}
+use Rattle.r2r.specs.Refusals.{Refusal, TooMany, ReadFailed, TooLong, Malformed, DuplicateName, NotIlOnly, NoEntry}
+use Rattle.r2r.specs.Refusals.{BadArguments, failed_calls}
+use Rattle.r2r.specs.Ending.{Reply, Refuses, Answers, FailsToWrite, Decides, IsAnswer, PrintsIfMemory, Ends}
+use Rattle.r2r.specs.Ending.{Replies, FindsNoMemory, IsReply}
+use Rattle.r2r.specs.Ending.{calls_of, malformed_by}
+use Rattle.r2r.specs.Dump.{dump_reply}
 
 module _ {S : Type 0} (written : S → Option (List ℕ)) (faults : S → ℕ) where
-  -- the line of a refusal was printed, or there was no memory for it
-  abbrev pub Refuses : ℕ → List ℕ → S → S → ℕ → Type 0
-  Refuses n line before after code =
-      Ends written faults (suc n) line before after code ⊎ ((code ≡ 7) × IsUntouched written faults before after)
+  -- a text that is printed at one moment is printed from an earlier one, where nothing came to the output in between
+  whole_since : (text : List ℕ) (before mid after : S) → IsUntouched written faults before mid
+      → Appends text (written mid) (written after) → Appends text (written before) (written after)
+  whole_since text before mid after (w, f) whole = subst (λ (old : Option (List ℕ)). Appends text old (written after)) w whole
 
-  pub refuses : {E : Type 0} (line : Result (List ℕ) E) (wanted : List ℕ) (n : ℕ) (before after : S) (code : ℕ)
-      → IfOk line (λ text. text ≡ wanted)
-      → MatchResult line (λ text. Prints written faults text before after × (code ≡ suc n))
-      (λ _. (code ≡ 7) × IsUntouched written faults before after)
-      → Refuses n wanted before after code
-  refuses (Ok text) wanted n before after code is printed =
-      let prints = subst (λ (t : List ℕ). Prints written faults t before after) is printed.0 in
-      inl (elim prints [ inl whole ↦ inl (whole, printed.1) | inr cut ↦ inr (cut, printed.1) ])
-  refuses (Err e) wanted n before after code is h = inr h
+  front_since : (text : List ℕ) (before mid after : S) → IsUntouched written faults before mid
+      → CutsShort written faults text mid after → CutsShort written faults text before after
+  front_since text before mid after (w, f) (rose, (k, cut)) = (
+    subst (λ (old : ℕ). Rose old (faults after)) f rose,
+    (k, subst (λ (old : Option (List ℕ)). Appends (take k text) old (written after)) w cut),
+  )
 
-  -- the same from an earlier moment, where nothing came to the output in between
-  pub since : (n : ℕ) (line : List ℕ) (before mid after : S) (code : ℕ) → IsUntouched written faults before mid
-      → Refuses n line mid after code → Refuses n line before after code
-  since n line before mid after code (w, f) (inl (inl (whole, e))) =
-      inl (inl (subst (λ (old : Option (List ℕ)). Appends line old (written after)) w whole, e))
-  since n line before mid after code (w, f) (inl (inr ((rose, (k, cut)), e))) =
-      let rises = subst (λ (old : ℕ). Rose old (faults after)) f rose in
-      inl (inr ((rises, (k, subst (λ (old : Option (List ℕ)). Appends (take k line) old (written after)) w cut)), e))
-  since n line before mid after code (w, f) (inr (e, (v, h))) = inr (e, (v ∙ w, h ∙ f))
+  pub since : (reply : Reply) (before mid after : S) (status : ℕ) → IsUntouched written faults before mid
+      → PrintsIfMemory written faults reply mid after status → PrintsIfMemory written faults reply before after status
+  since (Refuses refusal) before mid after status u (inl (e, inl whole)) = inl (e, inl (whole_since _ before mid after u whole))
+  since (Refuses refusal) before mid after status u (inl (e, inr front)) = inl (e, inr (front_since _ before mid after u front))
+  since (Answers n text) before mid after status u (inl (inl (e, whole))) = inl (inl (e, whole_since text before mid after u whole))
+  since (Answers n text) before mid after status u (inl (inr (e, front))) = inl (inr (e, front_since text before mid after u front))
+  since (FailsToWrite name) before mid after status u (inl (e, inl whole)) = inl (e, inl (whole_since _ before mid after u whole))
+  since (FailsToWrite name) before mid after status u (inl (e, inr front)) = inl (e, inr (front_since _ before mid after u front))
+  since reply before mid after status (w, f) (inr (e, (v, h))) = inr (e, (v ∙ w, h ∙ f))
 
-  pub malformed_ends : (name bytes : List ℕ) (fault : Fault) (before after : S) (code : ℕ) → file_fault bytes ≡ Some fault
-      → Refuses 2 (malformed_line name fault) before after code → BytesEnd written faults name bytes before after code
-  malformed_ends name bytes fault before after code first (inl ends) =
-      inl (3, malformed_line name fault, (rw first (refl, refl)), ends)
-  malformed_ends name bytes fault before after code first (inr h) = inr h
+-- what is printed, as it is seen
+module _ {F S : Type 0} (contents : F → Option Contents) (failed : F → List Call) (written : S → Option (List ℕ)) (faults : S → ℕ)
+    (files later : F) (old new : S) (status : ℕ) where
+  pub as_seen : (reply : Reply) → PrintsIfMemory written faults reply old new status
+      → PrintsIfMemory written_of faults_of reply (seen contents failed written faults files old)
+      (seen contents failed written faults later new) status
+  as_seen (Refuses refusal) printed = printed
+  as_seen (Answers whole text) printed = printed
+  as_seen (FailsToWrite name) printed = printed
 
-  module _ (contents : Option Contents) (old new : List Call) (name : List ℕ) (before after : S) (code : ℕ) where
-    pub failed_ends : new ≡ old ++ Read name ∷ [] → Refuses 1 (read_failed_line name) before after code
-        → DumpEnds written faults contents old new name before after code
-    failed_ends calls (inl ends) = inl (2, read_failed_line name, ReadFailed calls refl refl, ends)
-    failed_ends calls (inr (e, (w, f))) = inr (e, w, f, inr calls)
+-- ---- a refusal of the reading
 
-    pub too_long_ends : new ≡ old → IsKnownLonger file_limit contents name → Refuses 3 (too_long_line name) before after code
-        → DumpEnds written faults contents old new name before after code
-    too_long_ends calls long (inl ends) = inl (4, too_long_line name, TooLong calls long refl refl, ends)
-    too_long_ends calls long (inr (e, (w, f))) = inr (e, w, f, inl calls)
+among : (contents : Option Contents) (names : List (List ℕ)) (name : List ℕ) → IsReached contents names name → Contains names name
+among contents names name r =
+    subst (λ (all : List (List ℕ)). Contains all name) (sym r.in_order)
+    (Contains-append_right r.earlier (name ∷ r.later) name (0, omega arith, refl))
 
-    -- the dump of the bytes that were read is that of the file
-    pub read_ends : (bytes : List ℕ) → new ≡ old → length bytes ≤ file_limit → IsKnownAs contents name bytes
-        → BytesEnd written faults name bytes before after code → DumpEnds written faults contents old new name before after code
-    read_ends bytes calls len known (inl (status, text, reply, ends)) = inl (status, text, WasRead calls bytes len known reply, ends)
-    read_ends bytes calls len known (inr (e, (w, f))) = inr (e, w, f, inl calls)
+module _ (command : Command) (before after : Outside) (status : ℕ) where
+  abbrev PrintsReply : Reply → Type 0
+  PrintsReply reply = PrintsIfMemory written_of faults_of reply before after status
+
+  -- a reading and its reply, where no call failed
+  quiet_ends : (reading : Reading) (reply : Reply) → ComesTo before.contents (inputs command) reading → IsReply command reading reply
+      → after.failed ≡ before.failed → after.failed ≡ before.failed ++ calls_of reply → PrintsReply reply → Ends command before after status
+  quiet_ends reading reply comes is same calls (inl printed) = Replies reading reply comes is calls printed
+  quiet_ends reading reply comes is same calls (inr (e, nothing)) = FindsNoMemory e nothing (inl same)
+
+  pub stopped_ends : (refusal : Refusal) → after.failed ≡ before.failed ++ failed_calls refusal
+      → IsStoppedBy before.contents (inputs command) refusal → PrintsReply (Refuses refusal) → Ends command before after status
+  stopped_ends (TooMany n) calls comes printed =
+      quiet_ends (OverMost n) (Refuses (TooMany n)) comes refl (calls ∙ append-nil before.failed) calls printed
+  stopped_ends (ReadFailed name) calls comes (inl printed) = Replies (Failed name) (Refuses (ReadFailed name)) comes refl calls printed
+  stopped_ends (ReadFailed name) calls comes (inr (e, nothing)) =
+      FindsNoMemory e nothing (inr (Read name, among before.contents (inputs command) name comes.1, calls))
+  stopped_ends (TooLong name) calls comes printed =
+      quiet_ends (OverLimit name) (Refuses (TooLong name)) comes refl (calls ∙ append-nil before.failed) calls printed
+  stopped_ends (Malformed name fault) calls comes printed = absurd comes
+  stopped_ends (DuplicateName i j) calls comes printed = absurd comes
+  stopped_ends (NotIlOnly name) calls comes printed = absurd comes
+  stopped_ends NoEntry calls comes printed = absurd comes
+  stopped_ends (BadArguments worker) calls comes printed = absurd comes
+
+-- ---- a dump of bytes that were read
+
+module _ (name bytes : List ℕ) (before after : Outside) (status : ℕ) where
+  is_reply : (first : Option Fault)
+      → Decides ((malformed_by name first ++ []) ++ []) (IsAnswer (Dump name) (AllRead (bytes ∷ [])) (dump_reply name bytes first))
+      (dump_reply name bytes first)
+  is_reply None = (refl, refl)
+  is_reply (Some fault) = refl
+
+  no_calls : (first : Option Fault) → calls_of (dump_reply name bytes first) ≡ []
+  no_calls None = refl
+  no_calls (Some fault) = refl
+
+  pub read_ends : after.failed ≡ before.failed → ComesTo before.contents (name ∷ []) (AllRead (bytes ∷ []))
+      → PrintsIfMemory written_of faults_of (dump_reply name bytes (file_fault bytes)) before after status
+      → Ends (Dump name) before after status
+  read_ends same comes printed =
+      let calls : after.failed ≡ before.failed ++ calls_of (dump_reply name bytes (file_fault bytes)) =
+      same ∙ sym (ap (λ (gained : List Call). before.failed ++ gained) (no_calls (file_fault bytes)) ∙ append-nil before.failed) in
+      quiet_ends (Dump name) before after status (AllRead (bytes ∷ [])) (dump_reply name bytes (file_fault bytes)) comes
+      (is_reply (file_fault bytes)) same calls printed
+
+-- the one file that was read
+pub only_file : (contents : Option Contents) (name : List ℕ) (files : List (Vec ℕ Global)) (d : Vec ℕ Global)
+    → ComesTo contents (name ∷ []) (AllRead (map vec_items files))
+    → ComesTo contents (name ∷ []) (AllRead ((get_or files 0 d).items ∷ []))
+only_file contents name [] d (most, read) = absurd read
+only_file contents name (file ∷ []) d comes = comes
+only_file contents name (file ∷ more ∷ files) d (most, read) = absurd read.1

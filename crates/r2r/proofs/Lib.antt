@@ -1,2 +1,15 @@
+pub mod Exposed
+pub mod Decided
+pub mod StatusesOf
+pub mod DumpStatusesOf
 pub mod Endings
-pub mod CausesOf
+pub mod InOrder
+pub mod RunsOf
+pub mod Spelled
+pub mod EntryAt
+pub mod PartsAt
+pub mod ItemsAt
+pub mod EachOf
+pub mod Singles
+pub mod RunAt
+pub mod WordRows

@@ -19,6 +19,19 @@ command_of (command ∷ file ∷ []) =
     if pointwise nat_eq command (codes "dump") && is_positional file then Some (Dump file) else None
 command_of _ = None
 
+-- the files that a command reads, in their order
+abbrev pub inputs : Command → List (List ℕ)
+inputs (Dump name) = name ∷ []
+
+-- the file that a command writes, where there is one
+abbrev pub out_file : Command → Option (List ℕ)
+out_file (Dump name) = None
+
+-- where the words are a command, this holds of it
+abbrev pub IfCommand : Option Command → (Command → Type 0) → Type 0
+IfCommand None P = Unit {0}
+IfCommand (Some command) P = P command
+
 abbrev pub meaning : Parsed → Option Command
 meaning parsed.Usage = None
 meaning (parsed.Dump file) = Some (Dump file.now)

@@ -1,5 +1,13 @@
 pub mod Status
 pub mod Command
-pub mod Outcome
-pub mod Causes
+pub mod RunWords
+pub mod Values
+pub mod ParsedWords
+pub mod Outside
+pub mod Refusals
+pub mod Reading
+pub mod Inputs
+pub mod Ending
+pub mod Statuses
+pub mod Dump
 pub mod Program

@@ -1,29 +1,38 @@
--- What the program does with its arguments.
-use Rattle.std.specs.Prelude.{◌≡◌, ◌↔◌, ℕ, List, map, drop, String, string_bytes, Option, None}
+-- What the top call promises, and what the program does with its arguments.
+use Rattle.std.specs.Prelude.{◌≡◌, ◌↔◌, ℕ, ◌≤◌, List, map, drop, String, string_bytes, None, option_and_then}
 use Rattle.std.specs.Global.{Global}
 use Rattle.std.specs.declared.vec.IntoIter.{IntoIter}
 use Rattle.std.specs.Vec.Iter.{into_iter_items}
-use Rattle.rtr_outside.specs.Files.{Contents, Call}
-use Rattle.r2rdump.specs.Dump.{IsUntouched}
-use Rattle.r2r.specs.Command.{command_of}
-use Rattle.r2r.specs.Outcome.{DumpEnds, Prints, usage_line}
-use Rattle.r2r.specs.Causes.{DumpCauses, IfDump}
+use Rattle.r2r.specs.Command.{command_of, out_file, IfCommand}
+use Rattle.r2r.specs.Outside.{Outside, Takes, TakesNothing, ChangesOnly}
+use Rattle.r2r.specs.Refusals.{usage_line}
+use Rattle.r2r.specs.Ending.{Ends}
+use Rattle.r2r.specs.Statuses.{Statuses}
+use Rattle.r2r.specs.Dump.{DumpStatuses, IfDump}
 
 -- the words of the command line: the arguments without the program's name
 abbrev pub words_of : IntoIter (String Global) Global → List (List ℕ)
 words_of args = map string_bytes (drop 1 (into_iter_items args))
 
--- What the top call promises of these words: the status that the program ends with, the output and the failed calls.
-pub record Runs {S : Type 0} (written : S → Option (List ℕ)) (faults : S → ℕ) (contents : Option Contents) (old new : List Call)
-    (words : List (List ℕ)) (before after : S) (status : ℕ) : Type 0 where
+-- What the top call promises of these words: the status that the program ends with, the output and the files.
+pub record Runs (words : List (List ℕ)) (before after : Outside) (status : ℕ) : Type 0 where
+  -- 1, exactly where the words are no command: the usage line is printed, and no call failed
   pub usage : (status ≡ 1) ↔ (command_of words ≡ None)
-  pub usage_line : status ≡ 1 → Prints written faults usage_line before after × (new ≡ old)
-  pub dump : IfDump (command_of words) (λ name. DumpEnds written faults contents old new name before after status)
-  pub causes : IfDump (command_of words) (λ name. DumpCauses written faults contents old new name before after status)
+  pub usage_line : status ≡ 1 → Takes usage_line before after × (after.failed ≡ before.failed)
+  -- a command comes to a reply, which is printed, or finds no memory
+  pub ends : IfCommand (command_of words) (λ command. Ends command before after status)
+  -- when each other status comes, and what is its cause
+  pub statuses : IfCommand (command_of words) (λ command. Statuses command before after status)
+  -- the same of a dump
+  pub dump : IfDump (command_of words) (λ name. DumpStatuses name before after status)
+  -- no file changes but the one that the command writes
+  pub contents : ChangesOnly (option_and_then out_file (command_of words)) before.contents after.contents
+  -- the count of the output's faults never falls
+  pub never_falls : before.faults ≤ after.faults
 
 -- There was no memory for the words: nothing was read and nothing printed.
-pub record FindsNoMemory {S : Type 0} (written : S → Option (List ℕ)) (faults : S → ℕ) (old new : List Call) (before after : S)
-    (status : ℕ) : Type 0 where
+pub record FindsNoMemory (before after : Outside) (status : ℕ) : Type 0 where
   pub ends : status ≡ 7
-  pub calls : new ≡ old
-  pub untouched : IsUntouched written faults before after
+  pub calls : after.failed ≡ before.failed
+  pub contents : after.contents ≡ before.contents
+  pub untouched : TakesNothing before after

@@ -32,7 +32,7 @@ impl<'a> Command<'a> {
 }
 
 /// Whether a word is no option: it is not empty and doesn't begin with a dash.
-fn is_positional(word: &str) -> bool
+pub(crate) fn is_positional(word: &str) -> bool
     ensures { result ≡ is_positional word.now }
 {
     match word.as_bytes() {

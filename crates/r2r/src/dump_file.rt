@@ -1,27 +1,31 @@
 //! The dump of a file.
 
 ghost use Rattle.std.specs.Prelude.{◌≡◌, ◌≤◌, ◌^◌, length};
-ghost use Rattle.r2r.specs.Outcome.{BytesEnd, DumpEnds};
+ghost use Rattle.r2rdump.specs.Dump.{file_fault};
+ghost use Rattle.r2r.specs.Command.{Dump};
+ghost use Rattle.r2r.specs.Dump.{dump_reply};
+ghost use Rattle.r2r.specs.Ending.{Ends, PrintsIfMemory};
+ghost use Rattle.r2r.specs.Outside.{seen};
 ghost use Rattle.r2r.specs.Status.{code_of};
 
+use crate::inputs::read_inputs;
 use crate::output::refuse;
-use crate::refusals::{malformed, read_failed, too_long};
+use crate::refusals::{Refusal, Stop};
 use crate::status::Status;
 use r2rdump::{DumpRefusal, dump_text};
-use rtr_outside::{FileRefusal, Files, Sink};
+use rtr_outside::{Files, Sink};
 use std::alloc::Global;
 
 /// Dumps a file's bytes, or prints the line on its first fault.
 fn dump_bytes<S: Sink>(alloc: Global, name: &str, bytes: &[u8], out: &mut S) -> Status
     requires { length bytes.now ≤ 2 ^ 31 }
-    ensures ends { BytesEnd S.written S.faults name.now bytes.now out.old out.new (code_of result) }
+    ensures printed { PrintsIfMemory S.written S.faults (dump_reply name.now bytes.now (file_fault bytes.now))
+        out.old out.new (code_of result) }
     ensures never_falls { S.faults out.old ≤ S.faults out.new }
 {
     match dump_text(alloc, name, bytes, out) {
         Ok(()) => Status::Done,
-        Err(DumpRefusal::Malformed(fault)) => {
-            refuse(out, malformed(alloc, name, fault), Status::Malformed)
-        }
+        Err(DumpRefusal::Malformed(fault)) => refuse(alloc, Refusal::Malformed(name, fault), out),
         Err(DumpRefusal::SinkFailed) => Status::WriteFault,
         Err(DumpRefusal::NoMemory) => Status::NoMemory,
     }
@@ -34,15 +38,14 @@ pub(crate) fn dump_file<F: Files, S: Sink>(
     files: &mut F,
     out: &mut S,
 ) -> Status
-    ensures ends { DumpEnds S.written S.faults (F.contents files.old) (F.failed_calls files.old) (F.failed_calls files.new)
-        name.now out.old out.new (code_of result) }
+    ensures ends { Ends (Dump name.now) (seen F.contents F.failed_calls S.written S.faults files.old out.old)
+        (seen F.contents F.failed_calls S.written S.faults files.new out.new) (code_of result) }
     ensures contents { F.contents files.new ≡ F.contents files.old }
     ensures never_falls { S.faults out.old ≤ S.faults out.new }
 {
-    match files.read(name) {
-        Ok(bytes) => dump_bytes(alloc, name, &bytes, out),
-        Err(FileRefusal::Failed) => refuse(out, read_failed(alloc, name), Status::ReadFailed),
-        Err(FileRefusal::TooLong) => refuse(out, too_long(alloc, name), Status::Refused),
-        Err(FileRefusal::NoMemory) => Status::NoMemory,
+    match read_inputs(alloc, &[name], files) {
+        Ok(inputs) => dump_bytes(alloc, name, &inputs[0], out),
+        Err(Stop::Refused(refusal)) => refuse(alloc, refusal, out),
+        Err(Stop::NoMemory) => Status::NoMemory,
     }
 }

@@ -3,11 +3,14 @@
 
 mod command;
 mod dump_file;
+mod inputs;
 mod output;
 mod program;
 mod refusals;
+mod run_words;
 mod status;
 mod top;
+mod values;
 
 use rtr_outside::{OpenGate, RealFiles, RealSink};
 use std::process::ExitCode;
@@ -23,6 +26,10 @@ fn main(rt: HostRuntime) -> ExitCode {
 }
 
 #[cfg(test)]
+mod assembly_tests;
+#[cfg(test)]
 mod tests;
+#[cfg(test)]
+mod word_tests;
 #[cfg(test)]
 mod write_tests;

@@ -1,35 +1,35 @@
 //! Writing the lines of refusals.
 
-ghost use Rattle.std.specs.Prelude.{◌≡◌, ◌≤◌, MatchResult};
-ghost use Rattle.r2r.specs.Outcome.{Prints};
+ghost use Rattle.std.specs.Prelude.{◌≡◌, ◌≤◌};
+ghost use Rattle.r2r.specs.Outside.{PrintsText};
+ghost use Rattle.r2r.specs.Refusals.{meaning};
+ghost use Rattle.r2r.specs.Ending.{Refuses, PrintsIfMemory};
 ghost use Rattle.r2r.specs.Status.{code_of};
-ghost use Rattle.r2rdump.specs.Dump.{IsUntouched};
 
+use crate::refusals::Refusal;
 use crate::status::Status;
-use r2rdump::Text;
 use rtr_bytes::NoMemory;
 use rtr_outside::{Sink, write_all};
+use std::alloc::Global;
 
-/// Writes a refusal's line, as far as the output takes it.
+/// Writes a line, as far as the output takes it.
 pub(crate) fn print<S: Sink>(out: &mut S, line: &[u8])
-    ensures printed { Prints S.written S.faults line.now out.old out.new }
+    ensures printed { PrintsText S.written S.faults line.now out.old out.new }
     ensures never_falls { S.faults out.old ≤ S.faults out.new }
 {
     let _ = write_all(out, line);
 }
 
-/// Writes the line of a refusal, and answers its status, whether the output took the line or not. Where there was
+/// Writes the line of a refusal, and answers its status, whether the output took the line or not. Where there is
 /// no memory for the line it answers that.
-pub(crate) fn refuse<S: Sink>(out: &mut S, line: Result<Text, NoMemory>, status: Status) -> Status
-    ensures refused { MatchResult line
-        (λ text. Prints S.written S.faults text out.old out.new × (code_of result ≡ code_of status))
-        (λ _. (code_of result ≡ 7) × IsUntouched S.written S.faults out.old out.new) }
+pub(crate) fn refuse<S: Sink>(alloc: Global, refusal: Refusal<'_>, out: &mut S) -> Status
+    ensures printed { PrintsIfMemory S.written S.faults (Refuses (meaning refusal.entry)) out.old out.new (code_of result) }
     ensures never_falls { S.faults out.old ≤ S.faults out.new }
 {
-    match line {
-        Ok(text) => {
-            print(out, text.as_slice());
-            status
+    match refusal.line(alloc) {
+        Ok(line) => {
+            print(out, line.as_slice());
+            refusal.status()
         }
         Err(NoMemory) => Status::NoMemory,
     }

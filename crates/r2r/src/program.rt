@@ -1,10 +1,11 @@
 //! The program, from the arguments that the system hands over to the exit code.
 
-ghost use Rattle.std.specs.Prelude.{◌≡◌, ◌≤◌, ◌⊎◌, [], true, false, drop, Ok, IfOk, IfErr};
+ghost use Rattle.std.specs.Prelude.{◌≡◌, ◌⊎◌, [], true, false, drop, Ok, IfOk, IfErr};
 ghost use Rattle.std.specs.Process.{exit_status};
 ghost use Rattle.std.specs.Vec.Iter.{into_iter_items};
 ghost use Rattle.std.specs.IoError.{error_kind};
 ghost use Rattle.rtr_outside.specs.Transfer.{is_want_of_memory};
+ghost use Rattle.r2r.specs.Outside.{seen};
 ghost use Rattle.r2r.specs.Program.{Runs, FindsNoMemory, words_of};
 
 use crate::status::Status;
@@ -31,21 +32,18 @@ pub(crate) fn run<R: Threads + Sync, F: Files, S: Sink, G: Gate>(
 ) -> ExitCode
     // The words are the arguments without the program's name.
     ensures ran { IfOk args (λ args.
-        Runs S.written S.faults (F.contents files.old) (F.failed_calls files.old) (F.failed_calls files.new)
-        (words_of args) out.old out.new (exit_status result)
-        ⊎ FindsNoMemory S.written S.faults (F.failed_calls files.old) (F.failed_calls files.new)
-        out.old out.new (exit_status result)) }
+        Runs (words_of args) (seen F.contents F.failed_calls S.written S.faults files.old out.old)
+        (seen F.contents F.failed_calls S.written S.faults files.new out.new) (exit_status result)
+        ⊎ FindsNoMemory (seen F.contents F.failed_calls S.written S.faults files.old out.old)
+        (seen F.contents F.failed_calls S.written S.faults files.new out.new) (exit_status result)) }
 
     // Arguments that are no text are no command.
     ensures no_text { IfErr args (λ error. is_want_of_memory (error_kind error) ≡ false →
-        Runs S.written S.faults (F.contents files.old) (F.failed_calls files.old) (F.failed_calls files.new)
-        [] out.old out.new (exit_status result)) }
+        Runs [] (seen F.contents F.failed_calls S.written S.faults files.old out.old)
+        (seen F.contents F.failed_calls S.written S.faults files.new out.new) (exit_status result)) }
     ensures no_memory { IfErr args (λ error. is_want_of_memory (error_kind error) ≡ true →
-        FindsNoMemory S.written S.faults (F.failed_calls files.old) (F.failed_calls files.new)
-        out.old out.new (exit_status result)) }
-
-    ensures contents { F.contents files.new ≡ F.contents files.old }
-    ensures never_falls { S.faults out.old ≤ S.faults out.new }
+        FindsNoMemory (seen F.contents F.failed_calls S.written S.faults files.old out.old)
+        (seen F.contents F.failed_calls S.written S.faults files.new out.new) (exit_status result)) }
 {
     match args {
         Ok(args) => match words_after_name(alloc, args) {

@@ -1,9 +1,8 @@
 //! The one public call.
 
-ghost use Rattle.std.specs.Prelude.{◌≡◌, ◌≤◌, ◌↔◌, map, string_bytes};
-ghost use Rattle.r2r.specs.Command.{command_of};
-ghost use Rattle.r2r.specs.Outcome.{DumpEnds, Prints, usage_line};
-ghost use Rattle.r2r.specs.Causes.{DumpCauses, IfDump};
+ghost use Rattle.std.specs.Prelude.{map, string_bytes};
+ghost use Rattle.r2r.specs.Outside.{seen};
+ghost use Rattle.r2r.specs.Program.{Runs};
 
 use crate::command::Command;
 use crate::dump_file::dump_file;
@@ -29,22 +28,9 @@ pub fn r2r<R: Threads + Sync, F: Files, S: Sink, G: Gate>(
     out: &mut S,
     _gate: &G,
 ) -> u8
-    // The words are no command exactly where the usage line is printed.
-    ensures usage { (result ≡ 1) ↔ (command_of (map string_bytes words.now) ≡ None) }
-    ensures usage_line { result ≡ 1 →
-        Prints S.written S.faults usage_line out.old out.new × (F.failed_calls files.new ≡ F.failed_calls files.old) }
-
-    // A dump prints the reply to its file.
-    ensures dump { IfDump (command_of (map string_bytes words.now)) (λ name.
-        DumpEnds S.written S.faults (F.contents files.old) (F.failed_calls files.old) (F.failed_calls files.new)
-        name out.old out.new result) }
-    // When each status comes, and what is its cause.
-    ensures causes { IfDump (command_of (map string_bytes words.now)) (λ name.
-        DumpCauses S.written S.faults (F.contents files.old) (F.failed_calls files.old) (F.failed_calls files.new)
-        name out.old out.new result) }
-
-    ensures contents { F.contents files.new ≡ F.contents files.old }
-    ensures never_falls { S.faults out.old ≤ S.faults out.new }
+    // 1 exactly where the words are no command; else how the command ends, and the cause of each status.
+    ensures { Runs (map string_bytes words.now) (seen F.contents F.failed_calls S.written S.faults files.old out.old)
+        (seen F.contents F.failed_calls S.written S.faults files.new out.new) result }
 {
     match Command::parse(words) {
         Command::Usage => {

@@ -8,7 +8,8 @@ use Rattle.rtr_sections.specs.declared.slots.Slot.{Slot}
 use Rattle.rtr_sections.specs.declared.image.Image.{Image}
 use Rattle.rtr_sections.specs.Imports.{slot_count}
 use Rattle.cli_assembly.specs.Assemblies.{Assembly}
-use Rattle.r2rdump.specs.Text.{numbered, newline, file_line, header_lines, native_line, rtr_section_line, import_line}
+use Rattle.rtr_outside.specs.Text.{newline}
+use Rattle.r2rdump.specs.Text.{numbered, file_line, header_lines, native_line, rtr_section_line, import_line}
 use Rattle.r2rdump.specs.Text.{slot_line, entry_line}
 use Rattle.r2rdump.specs.Types.{assembly_lines}
 

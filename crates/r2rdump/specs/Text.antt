@@ -1,9 +1,9 @@
 -- The text of a dump, over the records of a file.
-use Rattle.std.specs.Prelude.{ℕ, ◌+◌, ◌/◌, ◌%◌, ◌^◌, ◌==◌, ◌&&◌, ◌||◌, List, [], ◌∷◌, ◌++◌, length, map, codes, decimal}
-use Rattle.std.specs.Prelude.{slice_index_or, Bool, Option, Some, None, nat_le, nat_lt, if◌then◌else◌}
+use Rattle.std.specs.Prelude.{ℕ, ◌+◌, ◌/◌, ◌%◌, ◌^◌, ◌==◌, ◌&&◌, List, [], ◌∷◌, ◌++◌, length, map, codes, decimal}
+use Rattle.std.specs.Prelude.{slice_index_or, Bool, Option, Some, None, nat_le, if◌then◌else◌}
 use Rattle.std.specs.List.{flat_map, list_all}
-use Rattle.std.specs.Int.{w16, w32, to_be_bytes}
 use Rattle.hex.specs.Hex.{encode_lower}
+use Rattle.rtr_outside.specs.Text.{hex4, hex8, printed_name, newline}
 use Rattle.native_format.specs.declared.nibbles.SlotRef.{SlotRef}
 use Rattle.fixup_sigs.specs.Shortest.{fixup_bytes}
 use Rattle.pe_image.specs.declared.section.PeSection.{PeSection}
@@ -16,17 +16,6 @@ use Rattle.rtr_sections.specs.declared.functions.Function.{Function}
 use Rattle.rtr_sections.specs.declared.entries.EntryPoint.{EntryPoint}
 use Rattle.rtr_sections.specs.declared.image.Image.{Image}
 
--- numbers in lower-case hexadecimal, of four and of eight digits
-abbrev pub hex4 : ℕ → List ℕ
-hex4 n = encode_lower (to_be_bytes w16 n)
-
-abbrev pub hex8 : ℕ → List ℕ
-hex8 n = encode_lower (to_be_bytes w32 n)
-
--- a name of any kind, with a question mark for each control character
-abbrev pub printed_name : List ℕ → List ℕ
-printed_name name = map (λ b. if nat_lt b 0x20 || b == 0x7F then 0x3F else b) name
-
 -- trailing zeros cut
 abbrev pub trimmed : List ℕ → List ℕ
 trimmed [] = []
@@ -35,9 +24,6 @@ trimmed (b ∷ bytes) = if list_all (λ c. c == 0) (b ∷ bytes) then [] else b 
 -- the name of a PE section, with a question mark for each byte that is no visible character of ASCII
 abbrev pub section_name : List ℕ → List ℕ
 section_name name = map (λ b. if nat_le 0x21 b && nat_le b 0x7E then b else 0x3F) (trimmed name)
-
-abbrev pub newline : List ℕ
-newline = 10 ∷ []
 
 -- the lines of things that are numbered from n on
 abbrev pub numbered : {X : Type 0} → (ℕ → X → List ℕ) → ℕ → List X → List ℕ

@@ -4,7 +4,8 @@ use Rattle.std.specs.List.{flat_map, range_with_len}
 use Rattle.hex.specs.Hex.{encode_lower}
 use Rattle.metadata.specs.declared.schema.Table.TheVariants as tables
 use Rattle.cli_assembly.specs.Assemblies.{Assembly, assembly_name, blob_at, column, methods_of, row_count, string_at}
-use Rattle.r2rdump.specs.Text.{hex8, method_token, newline, printed_name}
+use Rattle.rtr_outside.specs.Text.{hex8, newline, printed_name}
+use Rattle.r2rdump.specs.Text.{method_token}
 
 -- the text and the blob at an offset, empty where there is none: an assembly whose checks hold has each that a row names
 abbrev pub text_or_empty : Assembly → ℕ → List ℕ

@@ -12,12 +12,14 @@ ghost use Rattle.cli_assembly.specs.Checks.{assembly_checks};
 ghost use Rattle.r2rdump.specs.OnePass.{text_in_one_pass};
 ghost use Rattle.r2rdump.specs.Dump.{file_fault, lower, native_image_of, dump_text, IsRefused};
 
-use crate::text::Text;
+use crate::headers::{file_line, header_lines};
+use crate::image::native_lines;
+use crate::types::assembly_lines;
 use cli_assembly::Assembly;
 use metadata::Table;
 use pe_image::Pe;
 use rtr_bytes::{Fault, NoMemory, ReadRefusal};
-use rtr_outside::{Sink, SinkFailed, write_all};
+use rtr_outside::{Sink, SinkFailed, Text, write_all};
 use rtr_sections::{Image, read_rtr};
 use std::alloc::Global;
 use thiserror::Error;
@@ -124,10 +126,10 @@ fn printed(
     ensures { IfOk result (λ text. text ≡ text_in_one_pass name.now (length assembly.now) pe.now image.now (assembly_of assembly.now)) }
 {
     let mut text = Text::new(alloc);
-    text.file_line(name, assembly.bytes().len())?;
-    text.header_lines(pe)?;
-    text.native_lines(alloc, image)?;
-    text.assembly_lines(alloc, assembly)?;
+    file_line(&mut text, name, assembly.bytes().len())?;
+    header_lines(&mut text, pe)?;
+    native_lines(alloc, &mut text, image)?;
+    assembly_lines(alloc, &mut text, assembly)?;
     Ok(text)
 }
 

@@ -1,7 +1,7 @@
 //! The text of a dump.
 //!
 //! [`dump_text`] prints the records of a file: its PE headers, its CLI header, its ReadyToRun part, and its types with
-//! their methods. The text is made whole in memory, by a [`Text`], before any of it is written.
+//! their methods. The text is made whole in memory, as an `rtr_outside::Text`, before any of it is written.
 #![tactic(auto)]
 
 mod dump;
@@ -14,7 +14,6 @@ mod types;
 
 pub use dump::{DumpRefusal, dump_text};
 pub use laws::fault_is_the_lower;
-pub use text::Text;
 
 #[cfg(test)]
 mod tests;

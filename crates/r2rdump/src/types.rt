@@ -8,10 +8,10 @@ ghost use Rattle.r2rdump.specs.Types.{assembly_line, assembly_lines, before_name
 
 use crate::image::method_token;
 use crate::rows::{row_blob, row_text};
-use crate::text::Text;
 use cli_assembly::Assembly;
 use metadata::Table;
 use rtr_bytes::NoMemory;
+use rtr_outside::Text;
 use std::alloc::Global;
 use std::ops::Range;
 
@@ -33,86 +33,94 @@ fn type_token(row: u32) -> u32
     TYPE_DEF.wrapping_add(row)
 }
 
-impl Text {
-    /// Adds a namespace and a dot, where the namespace isn't empty.
-    fn namespace(&mut self, namespace: &str) -> Result<(), NoMemory>
-        ensures { OnOk result (self.new ≡ self.old ++ before_name namespace.now) }
-    {
-        if namespace.is_empty() {
-            return Ok(());
-        }
-        self.name("", namespace)?;
-        self.words(".")
+/// Adds a namespace and a dot, where the namespace isn't empty.
+fn namespace(text: &mut Text, namespace: &str) -> Result<(), NoMemory>
+    ensures { OnOk result (text.new ≡ text.old ++ before_name namespace.now) }
+{
+    if namespace.is_empty() {
+        return Ok(());
     }
+    text.name("", namespace)?;
+    text.words(".")
+}
 
-    fn type_line(&mut self, assembly: &Assembly, row: u32) -> Result<(), NoMemory>
-        ensures { OnOk result (self.new ≡ self.old ++ type_line (assembly_of assembly.now) row) }
-    {
-        self.hex32("type ", type_token(row))?;
-        self.words(" ")?;
-        let namespace = row_text(assembly, Table::TypeDef, row, TYPE_NAMESPACE);
-        self.namespace(namespace)?;
-        let name = row_text(assembly, Table::TypeDef, row, TYPE_NAME);
-        self.name("", name)?;
-        self.words("\n")
-    }
+fn type_line(text: &mut Text, assembly: &Assembly, row: u32) -> Result<(), NoMemory>
+    ensures { OnOk result (text.new ≡ text.old ++ type_line (assembly_of assembly.now) row) }
+{
+    text.hex32("type ", type_token(row))?;
+    text.words(" ")?;
+    let space = row_text(assembly, Table::TypeDef, row, TYPE_NAMESPACE);
+    namespace(text, space)?;
+    let name = row_text(assembly, Table::TypeDef, row, TYPE_NAME);
+    text.name("", name)?;
+    text.words("\n")
+}
 
-    fn method_line(&mut self, alloc: Global, assembly: &Assembly, row: u32) -> Result<(), NoMemory>
-        ensures { OnOk result (self.new ≡ self.old ++ method_line (assembly_of assembly.now) row) }
-    {
-        self.hex32("method ", method_token(row))?;
-        let name = row_text(assembly, Table::MethodDef, row, METHOD_NAME);
-        self.name(" ", name)?;
-        let signature = row_blob(assembly, Table::MethodDef, row, METHOD_SIGNATURE);
-        self.hex(alloc, " ", signature)?;
-        self.words("\n")
-    }
+fn method_line(
+    alloc: Global,
+    text: &mut Text,
+    assembly: &Assembly,
+    row: u32,
+) -> Result<(), NoMemory>
+    ensures { OnOk result (text.new ≡ text.old ++ method_line (assembly_of assembly.now) row) }
+{
+    text.hex32("method ", method_token(row))?;
+    let name = row_text(assembly, Table::MethodDef, row, METHOD_NAME);
+    text.name(" ", name)?;
+    let signature = row_blob(assembly, Table::MethodDef, row, METHOD_SIGNATURE);
+    text.hex(alloc, " ", signature)?;
+    text.words("\n")
+}
 
-    fn method_lines(&mut self, alloc: Global, assembly: &Assembly, row: u32) -> Result<(), NoMemory>
-        ensures { OnOk result (self.new ≡ self.old ++ flat_map (method_line (assembly_of assembly.now)) (methods_of (assembly_of assembly.now) row)) }
-    {
-        let Range { start, end } = assembly.methods(row);
-        for method in start..end {
-            self.method_line(alloc, assembly, method)?;
-        }
-        Ok(())
+fn method_lines(
+    alloc: Global,
+    text: &mut Text,
+    assembly: &Assembly,
+    row: u32,
+) -> Result<(), NoMemory>
+    ensures { OnOk result (text.new ≡ text.old ++ flat_map (method_line (assembly_of assembly.now)) (methods_of (assembly_of assembly.now) row)) }
+{
+    let Range { start, end } = assembly.methods(row);
+    for method in start..end {
+        method_line(alloc, text, assembly, method)?;
     }
+    Ok(())
+}
 
-    fn type_lines(&mut self, alloc: Global, assembly: &Assembly, row: u32) -> Result<(), NoMemory>
-        ensures { OnOk result (self.new ≡ self.old ++ type_lines (assembly_of assembly.now) row) }
-    {
-        self.type_line(assembly, row)?;
-        self.method_lines(alloc, assembly, row)
-    }
+fn type_lines(alloc: Global, text: &mut Text, assembly: &Assembly, row: u32) -> Result<(), NoMemory>
+    ensures { OnOk result (text.new ≡ text.old ++ type_lines (assembly_of assembly.now) row) }
+{
+    type_line(text, assembly, row)?;
+    method_lines(alloc, text, assembly, row)
+}
 
-    fn all_type_lines(&mut self, alloc: Global, assembly: &Assembly) -> Result<(), NoMemory>
-        ensures { OnOk result (self.new ≡ self.old ++ flat_map (type_lines (assembly_of assembly.now))
-            (range_with_len 1 (row_count (assembly_of assembly.now) tables.TypeDef))) }
-    {
-        let end = assembly.rows(Table::TypeDef) + 1;
-        for row in 1..end {
-            self.type_lines(alloc, assembly, row)?;
-        }
-        Ok(())
+fn all_type_lines(alloc: Global, text: &mut Text, assembly: &Assembly) -> Result<(), NoMemory>
+    ensures { OnOk result (text.new ≡ text.old ++ flat_map (type_lines (assembly_of assembly.now))
+        (range_with_len 1 (row_count (assembly_of assembly.now) tables.TypeDef))) }
+{
+    let end = assembly.rows(Table::TypeDef) + 1;
+    for row in 1..end {
+        type_lines(alloc, text, assembly, row)?;
     }
+    Ok(())
+}
 
-    fn assembly_line(&mut self, assembly: &Assembly) -> Result<(), NoMemory>
-        ensures { OnOk result (self.new ≡ self.old ++ assembly_line (assembly_of assembly.now)) }
-    {
-        self.name("assembly ", assembly.name())?;
-        self.words("\n")
-    }
+fn assembly_line(text: &mut Text, assembly: &Assembly) -> Result<(), NoMemory>
+    ensures { OnOk result (text.new ≡ text.old ++ assembly_line (assembly_of assembly.now)) }
+{
+    text.name("assembly ", assembly.name())?;
+    text.words("\n")
+}
 
-    /// Adds the lines of the assembly.
-    #[tactic(auto, unfolding(crate::specs::Types::assembly_lines))]
-    pub(crate) fn assembly_lines(
-        &mut self,
-        alloc: Global,
-        assembly: &Assembly,
-    ) -> Result<(), NoMemory>
-        ensures { OnOk result (self.new ≡ self.old ++ assembly_lines (assembly_of assembly.now)) }
-    {
-        self.assembly_line(assembly)?;
-        self.all_type_lines(alloc, assembly)
-    }
+/// Adds the lines of the assembly.
+#[tactic(auto, unfolding(crate::specs::Types::assembly_lines))]
+pub(crate) fn assembly_lines(
+    alloc: Global,
+    text: &mut Text,
+    assembly: &Assembly,
+) -> Result<(), NoMemory>
+    ensures { OnOk result (text.new ≡ text.old ++ assembly_lines (assembly_of assembly.now)) }
+{
+    assembly_line(text, assembly)?;
+    all_type_lines(alloc, text, assembly)
 }

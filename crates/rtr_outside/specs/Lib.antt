@@ -8,3 +8,4 @@ pub mod MemSink
 pub mod Transfer
 pub mod RealSink
 pub mod Sure
+pub mod Text

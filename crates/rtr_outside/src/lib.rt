@@ -6,6 +6,8 @@
 //! Files and sinks come in three kinds: [`MemFiles`] and [`MemSink`] in memory, which expose their bytes and of which
 //! chosen calls fail; [`SureFiles`] and [`SureSink`], which never fail and expose no bytes; and [`RealFiles`] and
 //! [`RealSink`] of the system, which expose no bytes, record their failed calls and count their faults.
+//!
+//! A [`Text`] is made whole in memory before any of it is written.
 #![tactic(auto)]
 
 mod calls;
@@ -18,6 +20,7 @@ mod real_files;
 mod real_sink;
 mod sink;
 mod sure;
+mod text;
 mod transfer;
 
 pub use files::{FILE_LIMIT, FileRefusal, Files};
@@ -28,6 +31,7 @@ pub use real_files::RealFiles;
 pub use real_sink::RealSink;
 pub use sink::{Sink, SinkFailed, write_all};
 pub use sure::{SureFiles, SureSink};
+pub use text::Text;
 
 #[cfg(test)]
 mod tests;

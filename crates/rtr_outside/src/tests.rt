@@ -334,3 +334,20 @@ fn room_is_taken_before_the_call(rt: HostRuntime) {
     }
     assert_eq!(rt; closed.tries.get(), tries);
 }
+
+#[test]
+fn text_in_the_making(rt: HostRuntime) -> Result<(), Fail> {
+    let alloc = rt.alloc();
+    let mut text = Text::new(alloc);
+    text.words("words")?;
+    text.byte(b',')?;
+    text.bytes(b" bytes")?;
+    text.decimal(" ", 18_446_744_073_709_551_615)?;
+    text.hex16(" ", 0xA)?;
+    text.hex32(" ", 0xB00)?;
+    text.hex(alloc, " ", &[0, 0xFE])?;
+    text.name(" ", "a\tname\u{7f}")?;
+    let wanted = "words, bytes 18446744073709551615 000a 00000b00 00fe a?name?";
+    assert_eq!(rt; text.as_slice(), wanted.as_bytes());
+    Ok(())
+}

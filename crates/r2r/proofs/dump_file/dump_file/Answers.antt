@@ -1,46 +1,38 @@
-use Rattle.std.proofs.Common.{ℕ, List, refl, subst}
-use Rattle.r2r.specs.Outcome.{BytesEnd, read_failed_line, too_long_line}
+use Rattle.std.proofs.Common.{ℕ, List, Vec, get_or, ap, subst, ◌∙◌}
+use Rattle.std.specs.Global.{Global}
+use Rattle.r2rdump.specs.Dump.{file_fault}
+use Rattle.r2r.specs.Command.{Dump}
+use Rattle.r2r.specs.Dump.{dump_reply}
+use Rattle.r2r.specs.Ending.{PrintsIfMemory}
+use Rattle.r2r.specs.Outside.{seen}
+use Rattle.r2r.specs.Refusals.{meaning}
 use Rattle.r2r.specs.Status.{code_of}
-use Rattle.r2r.proofs.Endings.{refuses, failed_ends, too_long_ends, read_ends}
+use Rattle.r2r.proofs.Endings.{as_seen, only_file, read_ends, stopped_ends}
 use Rattle.r2r.proofs.dump_file.dump_file.Goals as goal
 
 pub returns-in-Ok-clause-ends : goal.returns-in-Ok-clause-ends
 returns-in-Ok-clause-ends g c =
-    let written = g.S.Sink.written in
-    let faults = g.S.Sink.faults in
-    let calls = g.F.Files.failed_calls in
-    let name = c.args.name.now in
-    let code = code_of c.dump_bytes.result in
-    let read = c.in-Ok.ensures in
-    let ended = subst (λ (bytes : List ℕ). BytesEnd written faults name bytes c.args.out.now c.dump_bytes.new.out code)
-    c.deref.ensures.value c.dump_bytes.ensures.ends in
-    read_ends written faults (g.F.Files.contents c.args.files.now) (calls c.args.files.now) (calls c.read.new.self) name
-    c.args.out.now c.dump_bytes.new.out code c.in-Ok.bytes.items read.failed read.bounded read.bytes ended
+    let sink = g.S.Sink in
+    let files = g.F.Files in
+    let before = seen files.contents files.failed_calls sink.written sink.faults c.args.files.now c.args.out.now in
+    let after = seen files.contents files.failed_calls sink.written sink.faults c.read_inputs.new.files c.dump_bytes.new.out in
+    let read = c.in-Ok.ensures.read in
+    let first = c.index.result.now in
+    let only = only_file before.contents c.args.name.now c.in-Ok.inputs.items first read.1 in
+    let bytes = c.deref.ensures.value ∙ ap (λ (file : Vec ℕ Global). file.items) c.index.ensures in
+    let printed = subst (λ (file : List ℕ). PrintsIfMemory sink.written sink.faults (dump_reply c.args.name.now file (file_fault file))
+    c.args.out.now c.dump_bytes.new.out (code_of c.dump_bytes.result)) bytes c.dump_bytes.ensures.printed in
+    let file = (get_or c.in-Ok.inputs.items 0 first).items in
+    read_ends c.args.name.now file before after (code_of c.dump_bytes.result) read.0 only
+    (as_seen files.contents files.failed_calls sink.written sink.faults c.args.files.now c.read_inputs.new.files c.args.out.now
+    c.dump_bytes.new.out (code_of c.dump_bytes.result) (dump_reply c.args.name.now file (file_fault file)) printed)
 
-pub returns-in-Err-Failed-clause-ends : goal.returns-in-Err-Failed-clause-ends
-returns-in-Err-Failed-clause-ends g c =
-    let written = g.S.Sink.written in
-    let faults = g.S.Sink.faults in
-    let calls = g.F.Files.failed_calls in
-    let name = c.args.name.now in
-    let code = code_of c.refuse.result in
-    let failed = rw c.in-Err-Failed.field-0-is at c.in-Err-Failed.ensures.failed in
-    failed_ends written faults (g.F.Files.contents c.args.files.now) (calls c.args.files.now) (calls c.read.new.self) name
-    c.args.out.now c.refuse.new.out code failed
-    (refuses written faults c.read_failed.result (read_failed_line name) 1 c.args.out.now c.refuse.new.out code
-    c.read_failed.ensures c.refuse.ensures.refused)
-
-pub returns-in-Err-TooLong-clause-ends : goal.returns-in-Err-TooLong-clause-ends
-returns-in-Err-TooLong-clause-ends g c =
-    let written = g.S.Sink.written in
-    let faults = g.S.Sink.faults in
-    let calls = g.F.Files.failed_calls in
-    let name = c.args.name.now in
-    let ended = c.refuse-in-Err-TooLong in
-    let code = code_of ended.result in
-    let failed = rw c.in-Err-TooLong.field-0-is at c.in-Err-TooLong.ensures.failed in
-    let too_long = rw c.in-Err-TooLong.field-0-is at c.in-Err-TooLong.ensures.too_long in
-    too_long_ends written faults (g.F.Files.contents c.args.files.now) (calls c.args.files.now) (calls c.read.new.self) name
-    c.args.out.now ended.new.out code failed (too_long refl)
-    (refuses written faults c.too_long.result (too_long_line name) 3 c.args.out.now ended.new.out code
-    c.too_long.ensures ended.ensures.refused)
+pub returns-in-Err-Refused-clause-ends : goal.returns-in-Err-Refused-clause-ends
+returns-in-Err-Refused-clause-ends g c =
+    let sink = g.S.Sink in
+    let files = g.F.Files in
+    let before = seen files.contents files.failed_calls sink.written sink.faults c.args.files.now c.args.out.now in
+    let after = seen files.contents files.failed_calls sink.written sink.faults c.read_inputs.new.files c.refuse.new.out in
+    let read = rw c.in-Err-Refused.field-0-is at c.in-Err-Refused.ensures.read in
+    stopped_ends (Dump c.args.name.now) before after (code_of c.refuse.result) (meaning c.in-Err-Refused.refusal) read.0 read.1
+    c.refuse.ensures.printed

@@ -1,23 +1,25 @@
-use Rattle.std.proofs.Common.{ℕ, List, refl, sym, subst}
-use Rattle.r2r.specs.Outcome.{Prints}
-use Rattle.r2r.proofs.CausesOf.{causes_of_end}
+use Rattle.std.proofs.Common.{ℕ, List, map, string_bytes, refl, sym, subst}
+use Rattle.r2r.specs.Outside.{PrintsText, seen}
+use Rattle.r2r.proofs.RunsOf.{usage_runs, dump_runs}
 use Rattle.r2r.proofs.top.r2r.Goals as goal
 
-pub returns-in-Usage-clause-usage_line : goal.returns-in-Usage-clause-usage_line
-returns-in-Usage-clause-usage_line g c =
+pub returns-in-Usage : goal.returns-in-Usage
+returns-in-Usage g c =
     let sink = g.S.Sink in
-    λ h. (
-      subst (λ (text : List ℕ). Prints sink.written sink.faults text c.args.out.now c.print.new.out) c.as_bytes.ensures.value
-          c.print.ensures.printed,
-      refl,
-    )
+    let files = g.F.Files in
+    let before = seen files.contents files.failed_calls sink.written sink.faults c.args.files.now c.args.out.now in
+    let after = seen files.contents files.failed_calls sink.written sink.faults c.args.files.now c.print.new.out in
+    let line = subst (λ (text : List ℕ). PrintsText sink.written sink.faults text c.args.out.now c.print.new.out) c.as_bytes.ensures.value
+    c.print.ensures.printed in
+    usage_runs (map string_bytes c.args.words.now) before after c.from.result refl c.print.ensures.never_falls
+    (sym c.in-Usage.ensures) c.from.ensures line refl
 
-pub returns-in-Dump-clause-dump : goal.returns-in-Dump-clause-dump
-returns-in-Dump-clause-dump g c = rw (sym c.in-Dump.ensures, c.from-in-Dump.ensures) c.dump_file.ensures.ends
-
-pub returns-in-Dump-clause-causes : goal.returns-in-Dump-clause-causes
-returns-in-Dump-clause-causes g c =
-    let calls = g.F.Files.failed_calls in
-    rw (sym c.in-Dump.ensures) (causes_of_end g.S.Sink.written g.S.Sink.faults (g.F.Files.contents c.args.files.now)
-    (calls c.args.files.now) (calls c.dump_file.new.files) c.in-Dump.name.now c.args.out.now c.dump_file.new.out
-    c.from-in-Dump.result (rw c.from-in-Dump.ensures c.dump_file.ensures.ends))
+pub returns-in-Dump : goal.returns-in-Dump
+returns-in-Dump g c =
+    let sink = g.S.Sink in
+    let files = g.F.Files in
+    let before = seen files.contents files.failed_calls sink.written sink.faults c.args.files.now c.args.out.now in
+    let after = seen files.contents files.failed_calls sink.written sink.faults c.dump_file.new.files c.dump_file.new.out in
+    dump_runs (map string_bytes c.args.words.now) before after c.from-in-Dump.result c.dump_file.ensures.contents
+    c.dump_file.ensures.never_falls c.in-Dump.name.now (sym c.in-Dump.ensures)
+    (rw c.from-in-Dump.ensures c.dump_file.ensures.ends)

@@ -1,7 +1,0 @@
-use Rattle.std.proofs.Common.{◌≡◌, ◌++◌, take}
-use Rattle.std.specs.List.{flat_map}
-use Rattle.r2rdump.specs.Text.{entry_line}
-use Rattle.r2rdump.proofs.text.Text.entry_lines.Given as goal
-
-abbrev pub invariant-loop-entry : goal.invariant-loop-entry
-invariant-loop-entry l = l.self ≡ l.fn.self ++ flat_map (entry_line l.functions) (take l.entry-index l.entries)

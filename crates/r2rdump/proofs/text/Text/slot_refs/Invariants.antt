@@ -1,7 +1,0 @@
-use Rattle.std.proofs.Common.{◌≡◌, ◌++◌, take}
-use Rattle.std.specs.List.{flat_map}
-use Rattle.r2rdump.specs.Text.{slot_ref}
-use Rattle.r2rdump.proofs.text.Text.slot_refs.Given as goal
-
-abbrev pub invariant-loop-slot : goal.invariant-loop-slot
-invariant-loop-slot l = l.self ≡ l.fn.self ++ flat_map slot_ref (take l.slot-index l.slots)

@@ -1,0 +1,14 @@
+mod Examples
+mod ClassExamples
+mod Bound
+mod Decoded
+mod Typed
+mod Sound
+mod Entered
+mod Runs
+mod Chains
+mod Widening
+mod Monotone
+mod Rounds
+mod Names
+mod Untyped

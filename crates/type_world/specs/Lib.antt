@@ -1,0 +1,14 @@
+pub mod World
+pub mod Resolution
+pub mod Members
+pub mod Profile
+pub mod Numbers
+pub mod Arithmetic
+pub mod State
+pub mod Typing
+pub mod Step
+pub mod Run
+pub mod Entries
+pub mod Soundness
+pub mod Laws
+pub mod Loading
