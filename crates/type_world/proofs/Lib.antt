@@ -11,4 +11,7 @@ mod Widening
 mod Monotone
 mod Rounds
 mod Names
+mod Counts
 mod Untyped
+mod FullNames
+mod Listed

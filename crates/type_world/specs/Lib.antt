@@ -12,3 +12,4 @@ pub mod Entries
 pub mod Soundness
 pub mod Laws
 pub mod Loading
+pub mod Kept

@@ -5,14 +5,23 @@
 //! `Step` and `Run` of the meaning. They look each member up by its name, at every step.
 #![tactic(auto)]
 
+mod assemblies;
+mod classes;
+mod declared;
+mod declaring;
 mod ending;
+mod entries;
 mod identity;
 mod kind;
 mod laws;
+mod numbers;
 mod place;
 mod refusal;
+mod resolved;
+mod rows;
 mod world;
 
+pub use assemblies::MAX_ASSEMBLIES;
 pub use ending::Ending;
 pub use identity::{BUILT_IN, FieldId, MethodId, TypeId};
 pub use kind::Kind;
@@ -22,4 +31,4 @@ pub use laws::{
 };
 pub use place::{Place, Shape};
 pub use refusal::WorldRefusal;
-pub use world::{MAX_ASSEMBLIES, World};
+pub use world::World;

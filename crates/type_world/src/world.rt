@@ -1,71 +1,40 @@
-//! A world: assemblies whose simple names differ.
+//! A world: its assemblies, with what their rows name.
 
-ghost use Rattle.std.specs.Prelude.{◌≡◌, ◌≤◌, ◌<◌, ◌^◌, None, Some, length, slice_get, option_copied, IfErr, IfOk, IfSome, OnOk};
+ghost use Rattle.std.specs.Prelude.{◌≡◌, ◌≤◌, ◌<◌, ◌^◌, length, slice_get, option_copied, IfErr, IfOk, OnOk};
 ghost use Rattle.type_world.specs.Loading.{IsRefused, world_of};
-ghost use Rattle.std.specs.Str.{bytes_eq};
-ghost use Rattle.type_world.specs.World.{IsWorld, name_in, duplicate_from, earlier_name, first_duplicate};
+ghost use Rattle.type_world.specs.World.{IsWorld};
+ghost use Rattle.type_world.specs.Entries.{can_start, entry_named, entry_point};
+ghost use Rattle.type_world.specs.Kept.{kept_in};
+ghost use Rattle.type_world.specs.Numbers.{method_number, type_number};
+ghost use Rattle.type_world.specs.Profile.{is_abstract, method_flag};
 
+use crate::assemblies::Assemblies;
+use crate::identity::{BUILT_IN, MethodId, TypeId};
 use crate::refusal::WorldRefusal;
-use cli_assembly::Assembly;
+use crate::resolved::{Resolved, resolve_all};
+use cli_assembly::{Assembly, METHOD_STATIC};
 use std::alloc::Global;
 use std::marker::Model;
 
-/// A world has at most so many assemblies.
-pub const MAX_ASSEMBLIES: usize = 64;
-
-/// Whether two assemblies have one simple name.
-fn have_one_name(assemblies: &[Assembly], i: usize, j: usize) -> bool
-    requires first { i < length assemblies.now }
-    requires second { j < length assemblies.now }
-    ensures { result ≡ bytes_eq (name_in (world_of assemblies.now) j) (name_in (world_of assemblies.now) i) }
-{
-    assemblies[j].name() == assemblies[i].name()
-}
-
-/// The first assembly before another one that has the same name.
-fn earlier_name(assemblies: &[Assembly], j: usize) -> Option<usize>
-    requires { j < length assemblies.now }
-    ensures first { result ≡ earlier_name (world_of assemblies.now) j }
-    ensures below { IfSome result (λ i. i < j) }
-{
-    for i in 0..j {
-        if have_one_name(assemblies, i, j) {
-            return Some(i);
-        }
-    }
-    None
-}
-
-/// The least position whose name an earlier one has, and the first that has it: (earlier, later).
-fn first_duplicate(assemblies: &[Assembly]) -> Option<(usize, usize)>
-    ensures first { result ≡ first_duplicate (world_of assemblies.now) }
-    ensures below { IfSome result (λ found. (found.0 < length assemblies.now) × (found.1 < length assemblies.now)) }
-{
-    for j in 0..assemblies.len() {
-        if let Some(i) = earlier_name(assemblies, j) {
-            return Some((i, j));
-        }
-    }
-    None
-}
-
 /// Assemblies whose simple names differ (ECMA-335 II.6.2). Position 0 is the assembly that is run or compiled. Contracts see the bytes of
-/// the files; what they stand for is `world_of` them.
+/// the files; what they stand for is `world_of` them. What their rows name is resolved as the world is made; after that no call takes
+/// memory.
 #[derive(Debug, Drop)]
 pub struct World {
-    assemblies: Vec<Assembly>,
+    assemblies: Assemblies,
+    resolved: Vec<Resolved>,
 }
 
 impl Model for World {
-    ghost use Rattle.std.specs.Prelude.{ℕ, List};
+    ghost use Rattle.std.specs.Prelude.{◌≡◌, ℕ, List};
     ghost use Rattle.type_world.specs.Loading.{world_of};
-    ghost use Rattle.type_world.specs.World.{IsWorld};
+    ghost use Rattle.type_world.specs.Kept.{kept_in};
 
     ghost Value = { List (List ℕ) };
 
-    ghost view = { λ w. w.assemblies.items };
+    ghost view = { λ w. w.assemblies };
 
-    ghost invariant = { λ w. IsWorld (world_of w.assemblies.items) };
+    ghost invariant = { λ w. w.resolved.items ≡ kept_in (world_of w.assemblies) };
 }
 
 impl World {
@@ -78,23 +47,90 @@ impl World {
         ensures is_world { OnOk result (IsWorld (world_of list.items)) }
         ensures files { IfOk result (λ world. world ≡ list.items) }
     {
-        let count = list.len();
-        if count > MAX_ASSEMBLIES {
-            return Err(WorldRefusal::TooMany(count as u32));
+        let assemblies = Assemblies::new(list)?;
+        match resolve_all(alloc, &assemblies) {
+            Ok(resolved) => Ok(World {
+                assemblies,
+                resolved,
+            }),
+            Err(_) => Err(WorldRefusal::NoMemory),
         }
-        match first_duplicate(&list) {
-            Some((earlier, later)) => Err(WorldRefusal::DuplicateName(
-                earlier as u32,
-                later as u32,
-            )),
-            None => Ok(World { assemblies: list }),
-        }
+    }
+
+    /// How many assemblies there are.
+    pub fn count(&self) -> u8
+        ensures count { result ≡ length self.now }
+        ensures some { 0 < result }
+        ensures few { result ≤ 64 }
+    {
+        self.assemblies.count()
     }
 
     /// The assembly at a position, from 0. `None` exactly where there is none.
     pub fn assembly(&self, asm: u8) -> Option<&Assembly>
         ensures { option_copied result ≡ slice_get self.now asm }
     {
-        self.assemblies.get(asm as usize)
+        self.assemblies.assembly(asm)
+    }
+
+    /// What is kept of the assembly at a position.
+    pub(crate) fn resolved_at(&self, asm: u8) -> Option<&Resolved>
+        ensures { option_copied result ≡ slice_get (kept_in (world_of self.now)) asm }
+    {
+        self.resolved.get(asm as usize)
+    }
+
+    /// The number of a method: the built-in ones have 0 to 7, and the rows of MethodDef follow. `None` exactly where there is no such
+    /// method.
+    pub fn method_number(&self, method: MethodId) -> Option<u32>
+        ensures { result ≡ method_number (world_of self.now) method }
+    {
+        self.assemblies.method_number(method)
+    }
+
+    /// The number of a type: `System.Object` 0, `System.String` 1, `System.Console` 12, an array that of its element type, and a row of
+    /// TypeDef 16 and its place. `None` exactly where there is no such row.
+    pub fn type_number(&self, of: TypeId) -> Option<u32>
+        ensures { result ≡ type_number (world_of self.now) of }
+    {
+        self.assemblies.type_number(of)
+    }
+
+    /// Whether a method is abstract.
+    pub fn is_abstract(&self, method: MethodId) -> bool
+        ensures { result ≡ is_abstract (world_of self.now) method }
+    {
+        self.assemblies.is_abstract(method)
+    }
+
+    /// Whether a method is static.
+    pub fn is_static(&self, method: MethodId) -> bool
+        ensures { result ≡ method_flag (world_of self.now) method METHOD_STATIC }
+    {
+        self.assemblies.is_static(method)
+    }
+
+    /// The method of the entry point token of the assembly at position 0 (ECMA-335 II.25.3.3.2). `None` exactly where it is no MethodDef
+    /// token of a row.
+    pub fn entry_point(&self) -> Option<MethodId>
+        ensures { result ≡ entry_point (world_of self.now) }
+    {
+        self.assemblies.entry_point()
+    }
+
+    /// The one static method of a name in the first type of a full name. `None` exactly where there is not exactly one.
+    pub fn entry_named(&self, class: &str, name: &str) -> Option<MethodId>
+        ensures { result ≡ entry_named (world_of self.now) class.now name.now }
+    {
+        self.assemblies.entry_named(class, name)
+    }
+
+    /// Whether a run can begin at a row of MethodDef with some numbers: it is static, it has no `this`, its result is void or an integer, and
+    /// each parameter has an integer type in whose range its number is.
+    pub fn can_start(&self, entry: MethodId, numbers: &[i128]) -> bool
+        requires { entry.asm < BUILT_IN }
+        ensures { result ≡ can_start (world_of self.now) entry numbers.now }
+    {
+        self.assemblies.can_start(entry, numbers)
     }
 }

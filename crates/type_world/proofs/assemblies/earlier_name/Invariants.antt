@@ -3,7 +3,7 @@ use Rattle.std.specs.List.{range_with_len}
 use Rattle.std.specs.Str.{bytes_eq}
 use Rattle.type_world.specs.Loading.{world_of}
 use Rattle.type_world.specs.World.{earlier_name, name_in}
-use Rattle.type_world.proofs.world.earlier_name.Given as goal
+use Rattle.type_world.proofs.assemblies.earlier_name.Given as goal
 
 abbrev pub invariant-loop-i : goal.invariant-loop-i
 invariant-loop-i l =

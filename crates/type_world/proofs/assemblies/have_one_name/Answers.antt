@@ -1,5 +1,5 @@
 use Rattle.type_world.proofs.Names.{names_are}
-use Rattle.type_world.proofs.world.have_one_name.Goals as goal
+use Rattle.type_world.proofs.assemblies.have_one_name.Goals as goal
 
 pub returns : goal.returns
 returns c =

@@ -1,6 +1,6 @@
 use Rattle.std.specs.Vec.{vec_len}
 use Rattle.type_world.proofs.Names.{made_world}
-use Rattle.type_world.proofs.world.World.new.Goals as goal
+use Rattle.type_world.proofs.assemblies.Assemblies.new.Goals as goal
 
 pub invariant_of-result : goal.invariant_of-result
 invariant_of-result c =

@@ -1,7 +1,7 @@
 use Rattle.std.proofs.Common.{sym, ◌∙◌, length}
 use Rattle.type_world.specs.Loading.{world_of}
 use Rattle.type_world.proofs.Names.{from_start, pair_later}
-use Rattle.type_world.proofs.world.first_duplicate.Goals as goal
+use Rattle.type_world.proofs.assemblies.first_duplicate.Goals as goal
 
 pub loop-j-init : goal.loop-j-init
 loop-j-init c = from_start c.args.assemblies.now

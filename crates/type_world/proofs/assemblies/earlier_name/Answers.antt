@@ -3,7 +3,7 @@ use Rattle.std.specs.Str.{bytes_eq}
 use Rattle.type_world.specs.Loading.{world_of}
 use Rattle.type_world.specs.World.{name_in}
 use Rattle.type_world.proofs.Names.{rest_of}
-use Rattle.type_world.proofs.world.earlier_name.Goals as goal
+use Rattle.type_world.proofs.assemblies.earlier_name.Goals as goal
 
 pub loop-i-preserved : goal.loop-i-preserved
 loop-i-preserved c =

@@ -1,0 +1,19 @@
+-- What a world keeps of each of its assemblies, resolved as it is made: for each row what the definitions answer.
+use Rattle.std.specs.Prelude.{ℕ, List, Option, length, map}
+use Rattle.std.specs.List.{range_with_len}
+use Rattle.metadata.specs.declared.schema.Table.TheVariants as tables
+use Rattle.type_world.specs.declared.identity.TypeId.{TypeId}
+use Rattle.type_world.specs.World.{World, rows_at}
+use Rattle.type_world.specs.Resolution.{method_class}
+
+-- of one assembly
+pub record Kept : Type 0 where
+  -- the type that declares each row of MethodDef
+  pub method_classes : List (Option TypeId)
+
+unfoldable pub kept_of : World → ℕ → Kept
+kept_of world asm = record { method_classes = map (method_class world asm) (rows_at world asm tables.MethodDef) }
+
+-- of all, by position
+abbrev pub kept_in : World → List Kept
+kept_in world = map (kept_of world) (range_with_len 0 (length world))
