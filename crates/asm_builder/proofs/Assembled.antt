@@ -7,7 +7,8 @@ use Rattle.cli_assembly.specs.Checks.{assembly_checks}
 use Rattle.asm_builder.specs.declared.asked.Method.{Method}
 use Rattle.asm_builder.specs.Asked.{Asked}
 use Rattle.asm_builder.specs.Content.{content_of, locals_after}
-use Rattle.asm_builder.specs.File.{file_length, file_of}
+use Rattle.asm_builder.specs.File.{file_of}
+use Rattle.asm_builder.proofs.Sizes.{file_length}
 use Rattle.asm_builder.specs.Sound.{IsEntry, IsSound}
 use Rattle.asm_builder.proofs.BodiesBack.{locals_before}
 use Rattle.asm_builder.proofs.BuiltRecord.{built_assembly, built_bodies}

@@ -18,7 +18,7 @@ max_one n = omega arith
 module _ {X : Type 0} (a : Assembly) (listed : Table) (n : ℕ) (before : X → ℕ) (types : List X) (all : ℕ)
     (count : row_count a tables.TypeDef ≡ length types) (last : row_count a listed ≡ all)
     (starts : (i : ℕ) (t : X) → slice_get types i ≡ Some t → column a tables.TypeDef (i + 1) n ≡ before t + 1) where
-  start_is : (i : ℕ) (t : X) → slice_get types i ≡ Some t → list_start a listed (i + 1) n ≡ before t + 1
+  start_is : (i : ℕ) (t : X) → slice_get types i ≡ Some t → list_start a (i + 1) n ≡ before t + 1
   start_is i t e = ap (λ k. max 1 k) (starts i t e) ∙ max_one (before t)
 
   before_is : (i : ℕ) (t : X) (d : ℕ) → slice_get types i ≡ Some t → get_or (map before types) i d ≡ before t
@@ -29,13 +29,13 @@ module _ {X : Type 0} (a : Assembly) (listed : Table) (n : ℕ) (before : X → 
     | inl more ↦
         let there : nat_lt (i + 1) (row_count a tables.TypeDef) ≡ true = lt-ltb _ _ (omega (arith, more, count)) in
         let next = slice_get-get_or types (i + 1) t more in
-        ap (λ b. cond b (list_start a listed (i + 1 + 1) n) (row_count a listed + 1)) there
+        ap (λ b. cond b (list_start a (i + 1 + 1) n) (row_count a listed + 1)) there
         ∙ start_is (i + 1) (get_or types (i + 1) t) next
         ∙ ap (λ k. k + 1) (sym (before_is (i + 1) (get_or types (i + 1) t) all next))
     | inr past ↦
         let gone : nat_lt (i + 1) (row_count a tables.TypeDef) ≡ false = le-ltb _ _ (omega (arith, past, count)) in
         let size = length-map types before in
-        ap (λ b. cond b (list_start a listed (i + 1 + 1) n) (row_count a listed + 1)) gone
+        ap (λ b. cond b (list_start a (i + 1 + 1) n) (row_count a listed + 1)) gone
         ∙ ap (λ k. k + 1) (last ∙ sym (get_or_past (map before types) (i + 1) all (omega (arith, size, past))))
   ]
 
@@ -44,8 +44,8 @@ module _ {X : Type 0} (a : Assembly) (listed : Table) (n : ℕ) (before : X → 
       let start = start_is i t e in
       let first = before_is i t 0 e in
       let end = end_is i t e in
-      let from : list_start a listed (i + 1) n ≡ get_or (map before types) i 0 + 1 = start ∙ ap (λ k. k + 1) (sym first) in
-      let size : list_end a listed (i + 1) n - list_start a listed (i + 1) n
+      let from : list_start a (i + 1) n ≡ get_or (map before types) i 0 + 1 = start ∙ ap (λ k. k + 1) (sym first) in
+      let size : list_end a listed (i + 1) n - list_start a (i + 1) n
       ≡ get_or (map before types) (i + 1) all - get_or (map before types) i 0 = omega (arith, end, from) in
-      ap (λ k. range_with_len k (list_end a listed (i + 1) n - list_start a listed (i + 1) n)) from
+      ap (λ k. range_with_len k (list_end a listed (i + 1) n - list_start a (i + 1) n)) from
       ∙ ap (range_with_len (get_or (map before types) i 0 + 1)) size

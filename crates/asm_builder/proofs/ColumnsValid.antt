@@ -27,7 +27,8 @@ use Rattle.asm_builder.specs.Asked.{Asked}
 use Rattle.asm_builder.specs.Built.{Names}
 use Rattle.asm_builder.specs.Cells.{Cell, Number, Text, Blob, Coded, tables_of}
 use Rattle.asm_builder.specs.Content.{all_numbers, content_of, no_heaps}
-use Rattle.asm_builder.specs.File.{content_layout, metadata_at, metadata_bytes}
+use Rattle.asm_builder.specs.File.{metadata_at, metadata_bytes}
+use Rattle.asm_builder.proofs.Sizes.{content_layout}
 use Rattle.asm_builder.specs.Sound.{IsSound, rows_asked}
 use Rattle.asm_builder.proofs.BuiltRecord.{built_assembly, has_heaps}
 use Rattle.asm_builder.proofs.CellsNamed.{rows_counted, tables_named}

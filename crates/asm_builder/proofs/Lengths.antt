@@ -7,8 +7,9 @@ use Rattle.std.proofs.lemmas.List.Elements.{recursion_from_All}
 use Rattle.pe_image.specs.Places.{aligned}
 use Rattle.metadata.specs.Tables.{row_size, rows_of, table_size, widths_of}
 use Rattle.asm_builder.specs.declared.content.Content.{Content}
-use Rattle.asm_builder.specs.File.{file_length, file_of, is_there, metadata_bytes, metadata_length, rows_size, sized}
-use Rattle.asm_builder.specs.File.{table_bytes, tables_size, tables_stream}
+use Rattle.asm_builder.specs.File.{file_of, is_there, metadata_bytes, sized}
+use Rattle.asm_builder.proofs.Sizes.{file_length, metadata_length, rows_size, tables_size}
+use Rattle.asm_builder.specs.File.{table_bytes, tables_stream}
 use Rattle.asm_builder.proofs.TablesBack.{IsSpelled}
 use Rattle.asm_builder.proofs.TablesInRow.{Fits, have_sizes, length-table, length-tables}
 use Rattle.asm_builder.proofs.MetadataStand.{length-metadata_parts, length-tables_stream, rows_bytes}

@@ -11,7 +11,8 @@ use Rattle.asm_builder.specs.declared.content.Content.{Content}
 use Rattle.asm_builder.specs.Asked.{Asked}
 use Rattle.asm_builder.specs.Cells.{tables_of, user_heap}
 use Rattle.asm_builder.specs.Content.{Heaps, all_after, bodies_from, body_bytes, content_of, locals_after, locals_token, no_heaps, padded4}
-use Rattle.asm_builder.specs.File.{AreSmall, file_length, metadata_bytes, metadata_length}
+use Rattle.asm_builder.specs.File.{AreSmall, metadata_bytes}
+use Rattle.asm_builder.proofs.Sizes.{file_length, metadata_length}
 use Rattle.asm_builder.specs.Sound.{IsSound, are_small_heaps, code_size}
 use Rattle.asm_builder.proofs.BodyReadBack.{length-body_bytes}
 use Rattle.asm_builder.proofs.Lengths.{length-metadata}

@@ -1,3 +1,4 @@
+pub mod Sizes
 pub mod Assembled
 pub mod PeNumbers
 pub mod PeSizes

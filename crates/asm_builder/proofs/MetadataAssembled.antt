@@ -17,7 +17,8 @@ use Rattle.asm_builder.specs.declared.asked.Method.{Method}
 use Rattle.asm_builder.specs.declared.content.Content.{Content}
 use Rattle.asm_builder.specs.Asked.{Asked}
 use Rattle.asm_builder.specs.Content.{content_of}
-use Rattle.asm_builder.specs.File.{file_length, file_of, metadata_length}
+use Rattle.asm_builder.specs.File.{file_of}
+use Rattle.asm_builder.proofs.Sizes.{file_length, metadata_length}
 use Rattle.asm_builder.specs.Sound.{IsEntry, IsSound}
 use Rattle.asm_builder.proofs.BodiesBack.{locals_before}
 use Rattle.asm_builder.proofs.ColumnsValid.{columns_pass}

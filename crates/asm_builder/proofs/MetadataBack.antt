@@ -21,7 +21,8 @@ use Rattle.metadata.specs.Tables.{Layout, heap_sizes_of, layout_of, row_counts, 
 use Rattle.metadata.specs.declared.schema.Table.TheVariants as tables
 use Rattle.metadata.specs.Schema.{table_number}
 use Rattle.asm_builder.specs.declared.content.Content.{Content}
-use Rattle.asm_builder.specs.File.{content_layout, first_stream, metadata_at, metadata_bytes, root_bytes}
+use Rattle.asm_builder.specs.File.{first_stream, metadata_at, metadata_bytes, root_bytes}
+use Rattle.asm_builder.proofs.Sizes.{content_layout}
 use Rattle.asm_builder.specs.File.{sized, streams_of, tables_stream, version_text}
 use Rattle.asm_builder.proofs.TablesBack.{IsSpelled, all_stands, content_laid, count_is, sizes_in}
 use Rattle.asm_builder.proofs.TablesInRow.{length-tables}

@@ -16,7 +16,8 @@ use Rattle.cli_assembly.specs.Assemblies.{Assembly, assembly_by, assembly_of, bo
 use Rattle.cli_assembly.specs.Bodies.{MethodBody}
 use Rattle.cli_assembly.specs.Checks.{metadata_of}
 use Rattle.asm_builder.specs.declared.content.Content.{Content}
-use Rattle.asm_builder.specs.File.{content_layout, metadata_at, metadata_bytes}
+use Rattle.asm_builder.specs.File.{metadata_at, metadata_bytes}
+use Rattle.asm_builder.proofs.Sizes.{content_layout}
 use Rattle.asm_builder.proofs.TablesBack.{IsSpelled, blobs_back, guids_back, strings_back, table_back, user_strings_back}
 use Rattle.asm_builder.proofs.MetadataBack.{header_passes, layout_is, root_passes, rows_pass, span_in, streams_pass}
 use Rattle.asm_builder.proofs.PeBack.{IsShort}

@@ -1,15 +1,14 @@
 -- Tables with one row more.
 use Rattle.std.proofs.Common.{◌≡◌, ◌≤◌, ◌<◌, ◌+◌, ◌/◌, ◌%◌, ◌^◌, ℕ, zero, suc, Bool, true, List, [], ◌∷◌, ◌++◌, length}
-use Rattle.std.proofs.Common.{get_or, refl, sym, ap, ◌∙◌, subst, arith, length-append}
-use Rattle.std.specs.Prelude.{◌&&◌, is_some, nat_le, nat_lt}
+use Rattle.std.proofs.Common.{get_or, refl, ap, arith, length-append}
+use Rattle.std.specs.Prelude.{is_some, nat_le, nat_lt}
 use Rattle.std.specs.List.{list_all}
 use Rattle.std.proofs.lemmas.Bool.{and_from, and_parts, leb-true, le-leb, lt-ltb, ltb-true}
 use Rattle.std.proofs.lemmas.List.{length_push}
-use Rattle.metadata.specs.declared.schema.CodedKind.{CodedKind}
 use Rattle.asm_builder.specs.Cells.{Cell, Number, Text, Blob, Coded}
 use Rattle.asm_builder.specs.Content.{Heaps, all_after, blob_bytes, heaps_after, heaps_after_all, no_heaps, row_after}
 use Rattle.asm_builder.specs.Content.{table_after, tag_of, text_bytes}
-use Rattle.asm_builder.specs.Sound.{are_few, are_sound_rows, is_row, is_sound_cell, rows_asked, takes}
+use Rattle.asm_builder.specs.Sound.{are_few, are_sound_rows, is_row, is_sound_cell, rows_asked}
 use Rattle.asm_builder.specs.Tested.{one_more}
 
 abbrev pub add_row : ℕ → List Cell → List (List (List Cell)) → List (List (List Cell))

@@ -1,33 +1,26 @@
 -- Each call leaves a sound record exactly where its conditions hold, and what is counted then.
-use Rattle.std.proofs.Common.{◌≡◌, ◌≤◌, ◌<◌, ◌+◌, ◌*◌, ◌^◌, ℕ, Bool, true, false, not, List, [], ◌∷◌, ◌++◌, length, map, refl, sym, ap}
-use Rattle.std.proofs.Common.{◌∙◌, subst, arith, inl, inr, length-append}
-use Rattle.std.specs.Prelude.{◌↔◌, ◌&&◌, ◌||◌, ◌==◌, min, nat_lt, IsTrue, if◌then◌else◌}
-use Rattle.std.specs.List.{list_all}
-use Rattle.std.proofs.lemmas.Bool.{and_from, and_parts, eq-eqb, lt-ltb, ltb-true, or_cases}
+use Rattle.std.proofs.Common.{◌≡◌, ◌<◌, ◌+◌, ◌^◌, ℕ, Bool, true, false, List, [], ◌∷◌, ◌++◌, length, map, refl, sym, ap}
+use Rattle.std.proofs.Common.{◌∙◌, subst, arith}
+use Rattle.std.specs.Prelude.{◌↔◌, ◌&&◌, ◌||◌, ◌==◌, nat_lt, if◌then◌else◌}
+use Rattle.std.proofs.lemmas.Bool.{and_from, and_parts, lt-ltb}
 use Rattle.std.proofs.lemmas.List.{length_push, map-append}
-use Rattle.std.proofs.lemmas.List.Sums.{sum_by_push}
 use Rattle.std.proofs.lemmas.Str.{IsUtf8-nil, is_utf8-from_IsUtf8}
 use Rattle.metadata.specs.declared.schema.CodedKind.TheVariants as kinds
-use Rattle.metadata.specs.declared.schema.Table.{Table}
 use Rattle.metadata.specs.declared.schema.Table.TheVariants as tables
 use Rattle.cli_assembly.specs.declared.signature.TypeSig.{TypeSig}
-use Rattle.cli_assembly.specs.Shortest.{field_sig_bytes, is_writable_type, local_sig_bytes, method_sig_bytes}
-use Rattle.asm_builder.specs.declared.asked.Method.{Method}
+use Rattle.cli_assembly.specs.Shortest.{field_sig_bytes, is_writable_type}
 use Rattle.asm_builder.specs.declared.asked.Field.{Field}
 use Rattle.asm_builder.specs.declared.asked.TypeDef.{TypeDef}
-use Rattle.asm_builder.specs.declared.asked.TypeRef.{TypeRef}
-use Rattle.asm_builder.specs.declared.asked.MemberRef.{MemberRef}
-use Rattle.asm_builder.specs.declared.asked.Attribute.{Attribute}
-use Rattle.asm_builder.specs.Asked.{Asked, type_def, with_assembly_ref, with_attribute, with_field, with_member_ref, with_method}
+use Rattle.asm_builder.specs.Asked.{Asked, type_def, with_assembly_ref, with_attribute, with_field, with_member_ref}
 use Rattle.asm_builder.specs.Asked.{with_type_def, with_type_ref, with_user_string}
 use Rattle.asm_builder.specs.Cells.{Cell, Number, Coded, base_cell, assembly_ref_cells, attribute_cells, field_cells, member_ref_cells, tables_of, type_def_cells}
-use Rattle.asm_builder.specs.Cells.{type_ref_cells, user_heap, user_string_bytes}
+use Rattle.asm_builder.specs.Cells.{type_ref_cells}
 use Rattle.asm_builder.specs.Content.{all_after, no_heaps, blob_bytes, text_bytes}
-use Rattle.asm_builder.specs.Sound.{IsSound, are_few, are_owned, are_sound_tables, code_size, is_name, is_sound_cell, is_writable_field, takes}
+use Rattle.asm_builder.specs.Sound.{IsSound, are_few, are_owned, are_sound_tables, is_name, is_sound_cell, is_writable_field, takes}
 use Rattle.asm_builder.specs.Tested.{FitsAssemblyRef, FitsAttribute, FitsField, FitsMemberRef, FitsTypeDef, FitsTypeRef, FitsUserString}
 use Rattle.asm_builder.specs.Tested.{IsCounted, blob_room, blobs_size, capped, rows_with, strings_size, text_room}
 use Rattle.asm_builder.proofs.Counts.{few_fields, few_methods}
-use Rattle.asm_builder.proofs.Grown.{AreWithin, Grown, IsCap, grown_counted, grown_room, grown_small, one_row, small_from, within}
+use Rattle.asm_builder.proofs.Grown.{Grown, IsCap, grown_counted, grown_room, grown_small, one_row, small_from, within}
 use Rattle.asm_builder.proofs.OneRow.{all_push, all_push_back, blob_size, text_size, total}
 use Rattle.asm_builder.proofs.OwnedMore.{end_is, owned_end, owned_more, owner_is}
 use Rattle.asm_builder.proofs.Steps.{adds_assembly_ref, adds_attribute, adds_field, adds_member_ref, adds_type_def, adds_type_ref}

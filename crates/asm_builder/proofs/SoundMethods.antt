@@ -1,9 +1,8 @@
 -- A call for a method, and for the name: when they leave a sound record, and what is counted then.
-use Rattle.std.proofs.Common.{◌≡◌, ◌≤◌, ◌<◌, ◌+◌, ◌*◌, ◌^◌, ℕ, Bool, true, false, not, List, [], ◌∷◌, ◌++◌, length, map, refl, sym, ap}
-use Rattle.std.proofs.Common.{◌∙◌, cond, subst, arith, inl, inr}
-use Rattle.std.specs.Prelude.{◌↔◌, ◌&&◌, ◌==◌, nat_lt, IsTrue, if◌then◌else◌}
-use Rattle.std.specs.List.{list_all}
-use Rattle.std.proofs.lemmas.Bool.{and_from, and_parts, cases_Bool, cond-false, cond-true, lt-ltb, ltb-true}
+use Rattle.std.proofs.Common.{◌≡◌, ◌≤◌, ◌<◌, ◌+◌, ◌*◌, ◌^◌, ℕ, Bool, true, false, List, [], ◌∷◌, ◌++◌, length, refl, sym}
+use Rattle.std.proofs.Common.{cond, subst, arith, inl, inr}
+use Rattle.std.specs.Prelude.{◌↔◌, ◌&&◌, nat_lt, if◌then◌else◌}
+use Rattle.std.proofs.lemmas.Bool.{and_from, and_parts, cases_Bool, cond-false, cond-true, lt-ltb}
 use Rattle.std.proofs.lemmas.List.{length_push}
 use Rattle.std.proofs.lemmas.List.Sums.{sum_by-cons, sum_by_push}
 use Rattle.metadata.specs.declared.schema.Table.TheVariants as tables
@@ -17,7 +16,7 @@ use Rattle.asm_builder.specs.Sound.{IsSound, are_bytes, are_few, are_sound_table
 use Rattle.asm_builder.specs.Sound.{is_writable_sig}
 use Rattle.asm_builder.specs.Tested.{FitsMethod, FitsName, IsCounted, blob_room, blobs_size, capped, locals_room, strings_size, text_room}
 use Rattle.asm_builder.proofs.Counts.{few_methods}
-use Rattle.asm_builder.proofs.Grown.{AreWithin, Grown, IsCap, grown_counted, grown_room, grown_small, one_row, small_from, two_rows, within}
+use Rattle.asm_builder.proofs.Grown.{Grown, IsCap, grown_counted, grown_room, grown_small, one_row, small_from, two_rows, within}
 use Rattle.asm_builder.proofs.OneRow.{all_push, all_push_back, blob_size, blobs_sum, strings_sum, text_size, total}
 use Rattle.asm_builder.proofs.OwnedMore.{owned_more, owner_is}
 use Rattle.asm_builder.proofs.Padding.{size_few}

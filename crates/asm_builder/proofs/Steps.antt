@@ -1,6 +1,6 @@
 -- What each call adds: one row more of a table.
-use Rattle.std.proofs.Common.{◌≡◌, ◌+◌, ℕ, List, [], ◌∷◌, ◌++◌, map, refl, sym, ap, ◌∙◌, subst, arith, true, false, append_assoc}
-use Rattle.std.specs.Prelude.{Bool, filter, if◌then◌else◌}
+use Rattle.std.proofs.Common.{◌≡◌, ◌+◌, ℕ, List, [], ◌∷◌, ◌++◌, refl, ap, ◌∙◌, true, false}
+use Rattle.std.specs.Prelude.{Bool, if◌then◌else◌}
 use Rattle.std.proofs.lemmas.List.{append-nil, map-append}
 use Rattle.cli_assembly.specs.declared.signature.TypeSig.{TypeSig}
 use Rattle.asm_builder.specs.declared.asked.Method.{Method}

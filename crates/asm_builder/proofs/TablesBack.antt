@@ -17,7 +17,8 @@ use Rattle.metadata.specs.Schema.{columns_of, kind_number, table_number, tag_bit
 use Rattle.metadata.specs.Tables.{Layout, column_at, heap_bit, is_short, number_of, row_at, row_of, row_size, rows_of}
 use Rattle.metadata.specs.Tables.{table_at, table_of, table_size, width, width_of, widths_of}
 use Rattle.asm_builder.specs.declared.content.Content.{Content}
-use Rattle.asm_builder.specs.File.{content_layout, metadata_at, metadata_bytes, row_bytes, sized, table_bytes}
+use Rattle.asm_builder.specs.File.{metadata_at, metadata_bytes, row_bytes, sized, table_bytes}
+use Rattle.asm_builder.proofs.Sizes.{content_layout}
 use Rattle.asm_builder.proofs.PeBack.{IsShort}
 use Rattle.asm_builder.proofs.MetadataStand.{MetadataStands, TablesStand, length-metadata_parts, metadata_stands}
 use Rattle.asm_builder.proofs.MetadataStand.{rows_bytes, rows_place_in, tables_place, tables_stand_in}

@@ -25,7 +25,8 @@ use Rattle.asm_builder.specs.Asked.{Asked}
 use Rattle.asm_builder.specs.Cells.{Cell, bodies_rva, body_size, cells_of, is_empty, method_cells, method_rows, rva_of, tables_of}
 use Rattle.asm_builder.specs.Content.{Heaps, all_numbers, bodies_from, content_of, locals_token, no_heaps, row_after}
 use Rattle.asm_builder.specs.Content.{row_numbers, spelled_all, table_after, table_numbers}
-use Rattle.asm_builder.specs.File.{content_layout, file_of, sized}
+use Rattle.asm_builder.specs.File.{file_of, sized}
+use Rattle.asm_builder.proofs.Sizes.{content_layout}
 use Rattle.asm_builder.specs.Sound.{IsSound}
 use Rattle.asm_builder.proofs.BodiesBack.{body_back, locals_before, rva_before}
 use Rattle.asm_builder.proofs.Counts.{cells_are}

@@ -7,3 +7,4 @@ pub mod Numbers
 pub mod File
 pub mod Built
 pub mod Tested
+pub mod Refusals

@@ -10,14 +10,13 @@ ghost use Rattle.asm_builder.specs.Cells.{user_heap};
 ghost use Rattle.asm_builder.specs.Sound.{IsSound};
 
 use crate::asked::{Attribute, Field, MemberRef, Method, TypeDef, TypeRef};
+use crate::tokens::TOKEN_ROWS;
 use cli_assembly::{MethodSig, Params, TypeSig};
 use metadata::Table;
 use rtr_bytes::{NoMemory, Sequence};
 use std::alloc::Global;
 use std::marker::Model;
 
-/// How many rows the low bits of a token count.
-const TOKEN_ROWS: u32 = 1 << 24;
 /// The token of the user string at offset 0 (ECMA-335 III.1.9).
 const USER_STRINGS: u32 = 0x7000_0000;
 

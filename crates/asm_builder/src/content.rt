@@ -11,6 +11,7 @@ ghost use Rattle.asm_builder.specs.Content.{body_header, locals_after, locals_to
 
 use crate::asked::{Attribute, Field, MemberRef, Method, TypeDef, TypeRef};
 use crate::builder::Builder;
+use crate::tokens::TOKEN_ROWS;
 use crate::user_strings::user_heap;
 use cli_assembly::{write_field_sig, write_local_sig, write_method_sig};
 use metadata::{CODED_TABLES, CodedKind, CodedTable, Table};
@@ -25,8 +26,6 @@ pub(crate) type Rows = Sequence<Row>;
 
 /// How many tables there are, by number.
 pub(crate) const TABLES: u8 = 64;
-/// How many rows the low bits of a token count.
-const TOKEN_ROWS: u32 = 1 << 24;
 /// The RVA of the first body, after the CLI header.
 const BODIES_RVA: u32 = 0x2048;
 /// A fat header's flags and size (ECMA-335 II.25.4.3): 3 words, InitLocals, and the format.

@@ -12,6 +12,7 @@ ghost use Rattle.asm_builder.specs.Built.{IsBuilt};
 ghost use Rattle.asm_builder.specs.Cells.{user_heap};
 ghost use Rattle.asm_builder.specs.Content.{content_of};
 ghost use Rattle.asm_builder.specs.File.{file_of};
+ghost use Rattle.asm_builder.specs.Refusals.{IsRefused};
 ghost use Rattle.asm_builder.specs.Sound.{IsEntry, IsSound};
 
 use crate::builder::Builder;
@@ -75,7 +76,7 @@ impl Model for Draft {
 impl Draft {
     /// An assembly of this name. See [`Builder::new`].
     pub fn new(alloc: Global, name: &str) -> Result<Draft, DraftRefusal>
-        ensures refused { IfErr result (λ e. (e ≡ refusals.Unsound) ↔ ¬ (IsSound (only_name name.now))) }
+        ensures refused { IfErr result (IsRefused (IsSound (only_name name.now))) }
         ensures sound { OnOk result (IsSound (only_name name.now)) }
         ensures draft { IfOk result (λ draft. draft ≡ only_name name.now) }
     {
@@ -94,7 +95,7 @@ impl Draft {
 
     /// A row of AssemblyRef. See [`Builder::assembly_ref`].
     pub fn assembly_ref(&mut self, name: &str) -> Result<u32, DraftRefusal>
-        ensures refused { IfErr result (λ e. (e ≡ refusals.Unsound) ↔ ¬ (IsSound (with_assembly_ref self.old name.now))) }
+        ensures refused { IfErr result (IsRefused (IsSound (with_assembly_ref self.old name.now))) }
         ensures sound { OnOk result (IsSound (with_assembly_ref self.old name.now)) }
         ensures added { OnOk result (self.new ≡ with_assembly_ref self.old name.now) }
         ensures token { IfOk result (λ token. token ≡ last_token tables.AssemblyRef self.new.assembly_refs) }
@@ -110,7 +111,7 @@ impl Draft {
 
     /// A row of TypeRef. See [`Builder::type_ref`].
     pub fn type_ref(&mut self, parent: u32, space: &str, name: &str) -> Result<u32, DraftRefusal>
-        ensures refused { IfErr result (λ e. (e ≡ refusals.Unsound) ↔ ¬ (IsSound (with_type_ref self.old parent space.now name.now))) }
+        ensures refused { IfErr result (IsRefused (IsSound (with_type_ref self.old parent space.now name.now))) }
         ensures sound { OnOk result (IsSound (with_type_ref self.old parent space.now name.now)) }
         ensures added { OnOk result (self.new ≡ with_type_ref self.old parent space.now name.now) }
         ensures token { IfOk result (λ token. token ≡ last_token tables.TypeRef self.new.type_refs) }
@@ -132,7 +133,7 @@ impl Draft {
         name: &str,
         base: u32,
     ) -> Result<u32, DraftRefusal>
-        ensures refused { IfErr result (λ e. (e ≡ refusals.Unsound) ↔ ¬ (IsSound (with_type_def self.old flags space.now name.now base))) }
+        ensures refused { IfErr result (IsRefused (IsSound (with_type_def self.old flags space.now name.now base))) }
         ensures sound { OnOk result (IsSound (with_type_def self.old flags space.now name.now base)) }
         ensures added { OnOk result (self.new ≡ with_type_def self.old flags space.now name.now base) }
         ensures token { IfOk result (λ token. token ≡ last_token tables.TypeDef self.new.type_defs) }
@@ -148,7 +149,7 @@ impl Draft {
 
     /// A row of Field, of the last type. See [`Builder::field`].
     pub fn field(&mut self, flags: u16, name: &str, sig: TypeSig) -> Result<u32, DraftRefusal>
-        ensures refused { IfErr result (λ e. (e ≡ refusals.Unsound) ↔ ¬ (IsSound (with_field self.old flags name.now sig))) }
+        ensures refused { IfErr result (IsRefused (IsSound (with_field self.old flags name.now sig))) }
         ensures sound { OnOk result (IsSound (with_field self.old flags name.now sig)) }
         ensures added { OnOk result (self.new ≡ with_field self.old flags name.now sig) }
         ensures token { IfOk result (λ token. token ≡ last_token tables.Field self.new.fields) }
@@ -173,7 +174,7 @@ impl Draft {
         locals: &[TypeSig],
         code: &[u8],
     ) -> Result<u32, DraftRefusal>
-        ensures refused { IfErr result (λ e. (e ≡ refusals.Unsound) ↔ ¬ (IsSound (with_method self.old (method flags name.now sig.now max_stack locals.now code.now)))) }
+        ensures refused { IfErr result (IsRefused (IsSound (with_method self.old (method flags name.now sig.now max_stack locals.now code.now)))) }
         ensures sound { OnOk result (IsSound (with_method self.old (method flags name.now sig.now max_stack locals.now code.now))) }
         ensures added { OnOk result (self.new ≡ with_method self.old (method flags name.now sig.now max_stack locals.now code.now)) }
         ensures token { IfOk result (λ token. token ≡ last_token tables.MethodDef self.new.methods) }
@@ -194,7 +195,7 @@ impl Draft {
 
     /// A row of MemberRef. See [`Builder::member_ref`].
     pub fn member_ref(&mut self, parent: u32, name: &str, sig: &[u8]) -> Result<u32, DraftRefusal>
-        ensures refused { IfErr result (λ e. (e ≡ refusals.Unsound) ↔ ¬ (IsSound (with_member_ref self.old parent name.now sig.now))) }
+        ensures refused { IfErr result (IsRefused (IsSound (with_member_ref self.old parent name.now sig.now))) }
         ensures sound { OnOk result (IsSound (with_member_ref self.old parent name.now sig.now)) }
         ensures added { OnOk result (self.new ≡ with_member_ref self.old parent name.now sig.now) }
         ensures token { IfOk result (λ token. token ≡ last_token tables.MemberRef self.new.member_refs) }
@@ -211,7 +212,7 @@ impl Draft {
 
     /// A string of UTF-16 units in `#US`. See [`Builder::user_string`].
     pub fn user_string(&mut self, units: &[u16]) -> Result<u32, DraftRefusal>
-        ensures refused { IfErr result (λ e. (e ≡ refusals.Unsound) ↔ ¬ (IsSound (with_user_string self.old units.now))) }
+        ensures refused { IfErr result (IsRefused (IsSound (with_user_string self.old units.now))) }
         ensures sound { OnOk result (IsSound (with_user_string self.old units.now)) }
         ensures added { OnOk result (self.new ≡ with_user_string self.old units.now) }
         ensures token { IfOk result (λ token. token ≡ 0x7000_0000 + length (user_heap self.old.user_strings)) }
@@ -231,7 +232,7 @@ impl Draft {
         constructor: u32,
         value: &[u8],
     ) -> Result<u32, DraftRefusal>
-        ensures refused { IfErr result (λ e. (e ≡ refusals.Unsound) ↔ ¬ (IsSound (with_attribute self.old parent constructor value.now))) }
+        ensures refused { IfErr result (IsRefused (IsSound (with_attribute self.old parent constructor value.now))) }
         ensures sound { OnOk result (IsSound (with_attribute self.old parent constructor value.now)) }
         ensures added { OnOk result (self.new ≡ with_attribute self.old parent constructor value.now) }
         ensures token { IfOk result (λ token. token ≡ last_token tables.CustomAttribute self.new.attributes) }

@@ -75,7 +75,8 @@ fn locals_room(locals: &[TypeSig], code: &[u8]) -> u32
 pub(crate) fn method_blobs(sig: &MethodSig, locals: &[TypeSig], code: &[u8]) -> u32
     requires params { length sig.now.params < 2 ^ 29 }
     requires locals { length locals.now < 2 ^ 29 }
-    ensures { result ≡ blob_room (method_sig_bytes sig.now) + (if not (is_empty code.now) && not (is_empty locals.now) then blob_room (local_sig_bytes locals.now) else 0) }
+    ensures { result ≡ blob_room (method_sig_bytes sig.now)
+        + (if not (is_empty code.now) && not (is_empty locals.now) then blob_room (local_sig_bytes locals.now) else 0) }
 {
     blob_room(method_sig_len(sig)) + locals_room(locals, code)
 }
@@ -201,7 +202,8 @@ impl Draft {
     fn has_method_room(&self, name: &str, sig: &MethodSig, locals: &[TypeSig], code: &[u8]) -> bool
         requires params { length sig.now.params < 2 ^ 29 }
         requires locals { length locals.now < 2 ^ 29 }
-        ensures { IsTrue result ↔ HasRoom self.now tables.MethodDef (text_room name.now) (blob_room (method_sig_bytes sig.now) + (if not (is_empty code.now) && not (is_empty locals.now) then blob_room (local_sig_bytes locals.now) else 0)) }
+        ensures { IsTrue result ↔ HasRoom self.now tables.MethodDef (text_room name.now) (blob_room (method_sig_bytes sig.now)
+            + (if not (is_empty code.now) && not (is_empty locals.now) then blob_room (local_sig_bytes locals.now) else 0)) }
     {
         let blobs = method_blobs(sig, locals, code);
         self.has_room(Table::MethodDef, text_room(name), blobs)

@@ -2,8 +2,8 @@
 
 pub(crate) mod shown;
 
-use crate::Draft;
 use crate::example::{PUBLIC_CLASS, signature};
+use crate::{Draft, DraftRefusal};
 use cli_assembly::{Assembly, Elem, FIELD_STATIC, METHOD_STATIC, TypeSig};
 use shown::{has_bytes, strings_text, text_of};
 use std::alloc::Global;
@@ -115,5 +115,30 @@ fn strings_are_read_back(rt: HostRuntime) -> Result<(), Fail> {
     let tokens = [0x7000_0001, 0x7000_0003, 0x7000_000B, 0x7000_0015];
     assert_eq!(rt; strings_text(alloc, &assembly, &tokens)?.as_str(), STRINGS);
     assert!(rt; has_bytes(assembly.bytes(), &hex::decode(alloc, USER_STRINGS)?));
+    Ok(())
+}
+
+/// The most bytes that a file has.
+const FILE_LIMIT: usize = 16_777_216;
+
+/// An assembly with a method whose code is so many `nop`s.
+fn with_nops(alloc: Global, count: usize) -> Result<Draft, Fail> {
+    let mut draft = Draft::new(alloc, "Long")?;
+    draft.type_def(PUBLIC_CLASS, "", "C", 0)?;
+    let nothing = signature(alloc, false, &[], TypeSig::Void)?;
+    let code = vec![in alloc; 0; count]?;
+    draft.method(METHOD_STATIC, "M", &nothing, 0, &[], &code)?;
+    Ok(draft)
+}
+
+#[test]
+fn a_file_above_the_limit_is_too_long(rt: HostRuntime) -> Result<(), Fail> {
+    let alloc = rt.alloc();
+    // A file's length is a multiple of 512.
+    let short = with_nops(alloc, 512)?.finish(0)?.len();
+    let count = 512 + (FILE_LIMIT - short);
+    assert!(rt; with_nops(alloc, count)?.finish(0)?.len() == FILE_LIMIT);
+    let refused = with_nops(alloc, count + 512)?.finish(0);
+    assert!(rt; matches!(refused, Err(DraftRefusal::TooLong)));
     Ok(())
 }

@@ -14,7 +14,7 @@ use crate::content::has_locals;
 use metadata::{CODED_TABLES, CodedKind, CodedTable, Table};
 
 /// How many rows the low bits of a token count.
-const TOKEN_ROWS: u32 = 1 << 24;
+pub(crate) const TOKEN_ROWS: u32 = 1 << 24;
 
 /// Whether one of some bytes is a zero.
 fn has_zero(bytes: &[u8]) -> bool

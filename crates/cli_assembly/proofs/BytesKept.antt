@@ -3,10 +3,10 @@ use Rattle.std.proofs.Common.{◌+◌, ◌/◌, ◌%◌, ◌<◌, ℕ, zero, suc
 use Rattle.std.specs.Prelude.{◌==◌, ◌||◌, if◌then◌else◌}
 use Rattle.std.specs.List.{AllByRecursion}
 use Rattle.std.specs.Option.{option_map, option_and_then}
-use Rattle.rtr_bytes.specs.Compressed.{compressed_in}
+use Rattle.rtr_bytes.specs.Compressed.{compressed_in, number_in}
 use Rattle.cli_assembly.specs.Types.{after_counted, after_element, after_instance, after_items, after_method}
 use Rattle.cli_assembly.specs.Types.{after_number, after_result_and_params, after_shape, after_type, after_type_within}
-use Rattle.cli_assembly.specs.Types.{is_alone, is_modifier, is_numbered, is_prefix, number_in}
+use Rattle.cli_assembly.specs.Types.{is_alone, is_modifier, is_numbered, is_prefix}
 use Rattle.cli_assembly.proofs.Bind.{if_some_bind, if_some_choice}
 
 abbrev pub AreBytes : List ℕ → Type 0

@@ -22,12 +22,12 @@ use Rattle.cli_assembly.proofs.Records.{column_is, rows_are}
 
 -- ---- the rows of a list, by its ends
 
-pub fields_between : (assembly : Assembly) (row start end : ℕ) → start ≡ list_start assembly tables.Field row 4
+pub fields_between : (assembly : Assembly) (row start end : ℕ) → start ≡ list_start assembly row 4
     → end ≡ list_end assembly tables.Field row 4 → rows_between start end ≡ fields_of assembly row
 unfolding fields_of
 fields_between assembly row start end e f = rw (e, f) refl
 
-pub methods_between : (assembly : Assembly) (row start end : ℕ) → start ≡ list_start assembly tables.MethodDef row 5
+pub methods_between : (assembly : Assembly) (row start end : ℕ) → start ≡ list_start assembly row 5
     → end ≡ list_end assembly tables.MethodDef row 5 → rows_between start end ≡ methods_of assembly row
 unfolding methods_of
 methods_between assembly row start end e f = rw (e, f) refl
@@ -59,7 +59,7 @@ inside assembly listed n named below is row first last =
     is_inside assembly (kind_of 2 n) listed (column assembly tables.TypeDef row n) is (named tables.TypeDef row n first last below)
 
 start_inside : (assembly : Assembly) (listed : Table) (n row : ℕ) → AreInside assembly listed n
-    → list_start assembly listed row n ≤ row_count assembly listed + 1
+    → list_start assembly row n ≤ row_count assembly listed + 1
 start_inside assembly listed n zero all = omega (arith, first_row assembly tables.TypeDef n)
 start_inside assembly listed n (suc row) all =
     ⊎_elim (λ lt. let here = all (suc row) (omega arith) (omega (arith, lt)) in omega (arith, here))
@@ -110,11 +110,11 @@ in_order bytes layout n p below list row lt =
 -- ---- both, for each row
 
 end_by : (assembly : Assembly) (listed : Table) (row n : ℕ) (b : Bool) → nat_lt row (row_count assembly tables.TypeDef) ≡ b
-    → list_end assembly listed row n ≡ cond b (list_start assembly listed (row + 1) n) (row_count assembly listed + 1)
-end_by assembly listed row n b e = ap (λ c. cond c (list_start assembly listed (row + 1) n) (row_count assembly listed + 1)) e
+    → list_end assembly listed row n ≡ cond b (list_start assembly (row + 1) n) (row_count assembly listed + 1)
+end_by assembly listed row n b e = ap (λ c. cond c (list_start assembly (row + 1) n) (row_count assembly listed + 1)) e
 
 ascends_in : (assembly : Assembly) (listed : Table) (n row : ℕ) → AreInside assembly listed n → AreInOrder assembly n
-    → row < row_count assembly tables.TypeDef → list_start assembly listed row n ≤ list_start assembly listed (row + 1) n
+    → row < row_count assembly tables.TypeDef → list_start assembly row n ≤ list_start assembly (row + 1) n
 ascends_in assembly listed n zero all order lt = omega (arith, first_row assembly tables.TypeDef n)
 ascends_in assembly listed n (suc row) all order lt = let up = order row lt in omega (arith, up)
 

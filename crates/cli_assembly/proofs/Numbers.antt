@@ -2,8 +2,8 @@
 use Rattle.std.proofs.Common.{◌≡◌, ◌≤◌, ◌<◌, ℕ, zero, suc, ◌+◌, ◌-◌, List, drop, length, Option, Some, None, IfSome}
 use Rattle.std.proofs.Common.{refl, sym, ap, arith, zero-add, length-drop}
 use Rattle.std.specs.Option.{option_map, option_and_then}
-use Rattle.rtr_bytes.specs.Compressed.{compressed_at, compressed_in}
-use Rattle.cli_assembly.specs.Types.{after_counted, after_items, after_number, after_shape, number_in}
+use Rattle.rtr_bytes.specs.Compressed.{compressed_at, compressed_in, number_in}
+use Rattle.cli_assembly.specs.Types.{after_counted, after_items, after_number, after_shape}
 use Rattle.cli_assembly.proofs.Bind.{if_some_bind}
 
 at_start : (o : Option (ℕ × ℕ)) → option_map (λ (found : ℕ × ℕ). (found.0, 0 + found.1)) o ≡ o

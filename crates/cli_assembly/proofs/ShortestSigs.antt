@@ -6,14 +6,14 @@ use Rattle.std.specs.List.{AllByRecursion}
 use Rattle.std.specs.Option.{option_map, option_map_or, option_and_then}
 use Rattle.std.proofs.lemmas.Bool.{eqb-true}
 use Rattle.std.proofs.lemmas.List.Elements.{recursion_from_All}
-use Rattle.rtr_bytes.specs.Compressed.{compressed_bytes, compressed_in}
+use Rattle.rtr_bytes.specs.Compressed.{compressed_bytes, compressed_in, number_in}
 use Rattle.cli_assembly.specs.declared.element.Elem.{Elem}
 use Rattle.cli_assembly.specs.declared.signature.TypeSig.{TypeSig}
 use Rattle.cli_assembly.specs.declared.signature.TypeSig.TheVariants as types
 use Rattle.cli_assembly.specs.declared.signature.MethodSig.{MethodSig}
 use Rattle.cli_assembly.specs.Elements.{element_of}
 use Rattle.cli_assembly.specs.Types.{after_element, after_number, after_type, after_type_within, array_in, before, class_in, coded_type}
-use Rattle.cli_assembly.specs.Types.{number_in, type_in, type_of, types_in}
+use Rattle.cli_assembly.specs.Types.{type_in, type_of, types_in}
 use Rattle.cli_assembly.specs.Signatures.{counted_types_in, field_sig_of, has_this_of, local_sig_of, method_after, method_sig}
 use Rattle.cli_assembly.specs.Signatures.{method_sig_of, params_after, whole}
 use Rattle.cli_assembly.specs.Shortest.{IsWritable, IsWritableType, coded_of_token, field_sig_bytes, local_sig_bytes, method_sig_bytes}

@@ -6,12 +6,12 @@ use Rattle.std.specs.List.{AllByRecursion}
 use Rattle.std.specs.Option.{option_map, option_map_or, option_and_then}
 use Rattle.std.proofs.Math.Seq.{drop-append_seam}
 use Rattle.std.proofs.lemmas.List.Elements.{recursion_from_All}
-use Rattle.rtr_bytes.specs.Compressed.{compressed_bytes}
+use Rattle.rtr_bytes.specs.Compressed.{compressed_bytes, number_in}
 use Rattle.cli_assembly.specs.declared.signature.TypeSig.{TypeSig}
 use Rattle.cli_assembly.specs.declared.signature.TypeSig.TheVariants as types
 use Rattle.cli_assembly.specs.declared.signature.MethodSig.{MethodSig}
 use Rattle.cli_assembly.specs.Types.{after_number, after_type, after_type_within, before, class_in, coded_type}
-use Rattle.cli_assembly.specs.Types.{number_in, type_in, type_of, types_in}
+use Rattle.cli_assembly.specs.Types.{type_in, type_of, types_in}
 use Rattle.cli_assembly.specs.Signatures.{field_sig_of, has_this_of, local_sig_of, method_after}
 use Rattle.cli_assembly.specs.Signatures.{method_sig, method_sig_of, params_after, whole}
 use Rattle.cli_assembly.specs.Shortest.{IsWritable, IsWritableType, coded_of_token, convention_of, field_sig_bytes}

@@ -24,7 +24,7 @@ Found = List TypeSig × List ℕ
 abbrev behind : List TypeSig → Found → Found
 behind front found = (front ++ found.0, found.1)
 
--- what was found, after those in front of it
+-- what was found, after those before it
 pub with_front : List TypeSig → Option (List TypeSig × List ℕ) → Option (List TypeSig × List ℕ)
 with_front front o = option_map (behind front) o
 

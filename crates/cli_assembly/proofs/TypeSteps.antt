@@ -8,7 +8,8 @@ use Rattle.cli_assembly.specs.declared.pending.Pending.{Pending}
 use Rattle.cli_assembly.specs.declared.signature.TypeSig.{TypeSig}
 use Rattle.cli_assembly.specs.Types.{after_counted, after_element, after_instance, after_items, after_method}
 use Rattle.cli_assembly.specs.Types.{after_number, after_result_and_params, after_shape, after_type, after_type_within}
-use Rattle.cli_assembly.specs.Types.{is_alone, is_modifier, is_numbered, is_prefix, number_in, type_in, type_of}
+use Rattle.rtr_bytes.specs.Compressed.{number_in}
+use Rattle.cli_assembly.specs.Types.{is_alone, is_modifier, is_numbered, is_prefix, type_in, type_of}
 use Rattle.cli_assembly.specs.Heads.{after_pending, arguments_in, function_in, head_in, head_of, instance_in}
 use Rattle.cli_assembly.specs.Heads.{no_type, one_more, one_type, params_in, pending, shape_if, so_many}
 use Rattle.cli_assembly.proofs.Bind.{bind_choice, bind_same, bind_some, if_some_at, if_some_bind, if_some_choice}

@@ -124,21 +124,21 @@ member_field_signature assembly row = signature_at field_sig_of assembly tables.
 unfoldable pub body_of : Assembly → ℕ → Option MethodBody
 body_of assembly row = get_or (None ∷ assembly.bodies) row None
 
--- the first row after those of a type's list: that of the next type's, or the end of the listed table; a list that begins at 0
--- begins at the first row (II.22.37)
-abbrev pub list_start : Assembly → Table → ℕ → ℕ → ℕ
-list_start assembly listed row n = max 1 (column assembly tables.TypeDef row n)
+-- the first row of a type's list; a list that begins at 0 begins at the first row (II.22.37)
+abbrev pub list_start : Assembly → ℕ → ℕ → ℕ
+list_start assembly row n = max 1 (column assembly tables.TypeDef row n)
 
+-- the row after its last one: the first of the next type's list, or the end of the listed table
 abbrev pub list_end : Assembly → Table → ℕ → ℕ → ℕ
 list_end assembly listed row n =
-    if nat_lt row (row_count assembly tables.TypeDef) then list_start assembly listed (row + 1) n else row_count assembly listed + 1
+    if nat_lt row (row_count assembly tables.TypeDef) then list_start assembly (row + 1) n else row_count assembly listed + 1
 
 -- the rows from one up to another
 abbrev pub rows_between : ℕ → ℕ → List ℕ
 rows_between start end = range_with_len start (end - start)
 
 abbrev pub list_rows : Assembly → Table → ℕ → ℕ → List ℕ
-list_rows assembly listed row n = rows_between (list_start assembly listed row n) (list_end assembly listed row n)
+list_rows assembly listed row n = rows_between (list_start assembly row n) (list_end assembly listed row n)
 
 -- FieldList and MethodList of a TypeDef row
 unfoldable pub fields_of : Assembly → ℕ → List ℕ

@@ -2,7 +2,8 @@
 use Rattle.std.specs.Prelude.{ℕ, ◌+◌, ◌/◌, ◌%◌, ◌==◌, ◌||◌, Bool, true, false, List, [], ◌∷◌, Option, Some, None, if◌then◌else◌}
 use Rattle.std.specs.Option.{option_map, option_and_then}
 use Rattle.cli_assembly.specs.declared.pending.Pending.{Pending}
-use Rattle.cli_assembly.specs.Types.{number_in, after_number, after_items, after_shape, is_alone, is_modifier, is_numbered, is_prefix}
+use Rattle.rtr_bytes.specs.Compressed.{number_in}
+use Rattle.cli_assembly.specs.Types.{after_number, after_items, after_shape, is_alone, is_modifier, is_numbered, is_prefix}
 
 abbrev pub pending : ℕ → Bool → Pending
 pending types shape = record { types = types; shape = shape }

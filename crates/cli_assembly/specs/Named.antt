@@ -40,7 +40,7 @@ pub record IsOneAssembly (assembly : Assembly) : Type 0 where
 
 -- the list of each type ends where it begins or after, and in the listed table or at its end: no row is of two types
 abbrev pub Ascends : Assembly → Table → ℕ → Type 0
-Ascends assembly listed n = (row : ℕ) → (list_start assembly listed row n ≤ list_end assembly listed row n)
+Ascends assembly listed n = (row : ℕ) → (list_start assembly row n ≤ list_end assembly listed row n)
     × (list_end assembly listed row n ≤ row_count assembly listed + 1)
 
 -- FieldList and MethodList of TypeDef (II.22.37)

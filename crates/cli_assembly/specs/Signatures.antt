@@ -4,7 +4,8 @@ use Rattle.std.specs.Prelude.{ℕ, ◌==◌, Bool, true, false, List, [], ◌∷
 use Rattle.std.specs.Option.{option_map, option_and_then}
 use Rattle.cli_assembly.specs.declared.signature.TypeSig.{TypeSig}
 use Rattle.cli_assembly.specs.declared.signature.MethodSig.{MethodSig}
-use Rattle.cli_assembly.specs.Types.{number_in, type_in, types_in}
+use Rattle.rtr_bytes.specs.Compressed.{number_in}
+use Rattle.cli_assembly.specs.Types.{type_in, types_in}
 
 -- what was found, where no bytes are after it
 abbrev pub whole : {X : Type 0} → Option (X × List ℕ) → Option X

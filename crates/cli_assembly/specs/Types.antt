@@ -1,9 +1,9 @@
 -- The types of signatures (ECMA-335 II.23.2.4 to II.23.2.14), by the bytes that begin with one. One rule holds in each place of
 -- a signature: what the standard allows before a parameter, a result, a field or a local alone is read before each type.
-use Rattle.std.specs.Prelude.{ℕ, zero, suc, ◌+◌, ◌/◌, ◌%◌, ◌^◌, ◌==◌, ◌&&◌, ◌||◌, Bool, List, [], ◌∷◌, length, drop}
+use Rattle.std.specs.Prelude.{ℕ, zero, suc, ◌+◌, ◌/◌, ◌%◌, ◌^◌, ◌==◌, ◌&&◌, ◌||◌, Bool, List, [], ◌∷◌, length}
 use Rattle.std.specs.Prelude.{Option, Some, None, if◌then◌else◌, nat_le, nat_lt}
 use Rattle.std.specs.Option.{option_map, option_map_or, option_and_then}
-use Rattle.rtr_bytes.specs.Compressed.{compressed_in}
+use Rattle.rtr_bytes.specs.Compressed.{compressed_in, number_in}
 use Rattle.metadata.specs.declared.schema.CodedKind.TheVariants as kinds
 use Rattle.metadata.specs.Schema.{table_number, tagged_table}
 use Rattle.metadata.specs.Heaps.{token}
@@ -13,10 +13,7 @@ use Rattle.cli_assembly.specs.Elements.{element_of}
 
 -- ---- what comes after: each answers the bytes after the item that bytes begin with, and none where they begin with no such item
 
--- a compressed number, with the bytes after it, and the bytes after it alone
-abbrev pub number_in : List ℕ → Option (ℕ × List ℕ)
-number_in bytes = option_map (λ found. (found.0, drop found.1 bytes)) (compressed_in bytes)
-
+-- a compressed number
 abbrev pub after_number : List ℕ → Option (List ℕ)
 after_number bytes = option_map (λ found. found.1) (number_in bytes)
 

@@ -81,7 +81,7 @@ impl Model for Assembly {
 impl Assembly {
     /// The assembly of a file's bytes, of which there are at most 2^31. `Malformed` names the first of the checks 1 to 14, 30 to 43,
     /// 50 and 51 that fails, with its place; the bytes are dropped then. `NoMemory` comes where memory is refused, and where the blobs
-    /// of all signatures together, each as often as rows name it, have more than 32 times the bytes of the file.
+    /// of all signatures together, each as often as rows name it and those of MemberRef twice, have more than 32 times the bytes of the file.
     pub fn read(alloc: Global, bytes: Vec<u8>) -> Result<Assembly, ReadRefusal>
         requires small { length bytes.items ≤ 2 ^ 31 }
         ensures malformed { IfErr result (λ e. RefusedBy (first_fault (assembly_checks bytes.items) bytes.items) e) }

@@ -7,7 +7,7 @@ use rtr_bytes::Span;
 pub struct Body {
     /// MaxStack: how many values the stack holds at most. A tiny header stands for 8.
     pub max_stack: u16,
-    /// LocalVarSigTok: the token of the signature of the locals, as it stands. The whole number 0 is no locals.
+    /// LocalVarSigTok: the token of the signature of the locals, as the header has it. The whole number 0 is no locals.
     pub locals: u32,
     /// The code, as a range of the file.
     pub code: Span,

@@ -81,30 +81,30 @@ impl Assembly {
     }
 
     /// The first row of a type's list; a list that begins at 0 begins at the first row.
-    fn list_start(&self, listed: Table, row: u32, number: u8) -> u32
-        ensures { result ≡ list_start (assembly_of self.now) listed row number }
+    fn list_start(&self, row: u32, number: u8) -> u32
+        ensures { result ≡ list_start (assembly_of self.now) row number }
     {
         self.column(Table::TypeDef, row, number).max(1)
     }
 
     /// The rows of a type's list, up to those of the next type's, or to the end of the listed table.
     fn list(&self, listed: Table, row: u32, number: u8) -> Range<u32>
-        ensures start { result.start ≡ list_start (assembly_of self.now) listed row number }
+        ensures start { result.start ≡ list_start (assembly_of self.now) row number }
         ensures end { result.end ≡ list_end (assembly_of self.now) listed row number }
     {
         let end = if row < self.rows(Table::TypeDef) {
-            self.list_start(listed, row + 1, number)
+            self.list_start(row + 1, number)
         } else {
             self.rows(listed) + 1
         };
-        self.list_start(listed, row, number)..end
+        self.list_start(row, number)..end
     }
 
     /// The rows of Field that a TypeDef row, from 1, lists (ECMA-335 II.22.37): those from its FieldList up to the next type's, or to
     /// the end of Field.
     pub fn fields(&self, row: u32) -> Range<u32>
         ensures rows { rows_between result.start result.end ≡ fields_of (assembly_of self.now) row }
-        ensures start { result.start ≡ list_start (assembly_of self.now) tables.Field row 4 }
+        ensures start { result.start ≡ list_start (assembly_of self.now) row 4 }
         ensures end { result.end ≡ list_end (assembly_of self.now) tables.Field row 4 }
     {
         self.list(Table::Field, row, FIELD_LIST)
@@ -114,7 +114,7 @@ impl Assembly {
     /// or to the end of MethodDef.
     pub fn methods(&self, row: u32) -> Range<u32>
         ensures rows { rows_between result.start result.end ≡ methods_of (assembly_of self.now) row }
-        ensures start { result.start ≡ list_start (assembly_of self.now) tables.MethodDef row 5 }
+        ensures start { result.start ≡ list_start (assembly_of self.now) row 5 }
         ensures end { result.end ≡ list_end (assembly_of self.now) tables.MethodDef row 5 }
     {
         self.list(Table::MethodDef, row, METHOD_LIST)

@@ -6,7 +6,10 @@ ghost use Rattle.std.specs.Option.{option_map};
 ghost use Rattle.cli_assembly.specs.Types.{after_type, is_alone, is_modifier, is_numbered, is_prefix};
 ghost use Rattle.cli_assembly.specs.Heads.{function_in, head_in, instance_in, is_nothing, kept, shape_if};
 
-use crate::element_types::{ARRAY, CLASS, FNPTR, GENERICINST, VALUETYPE};
+use crate::element_types::{
+    ARRAY, BYREF, CLASS, CMOD_OPT, CMOD_REQD, FNPTR, GENERICINST, I, MVAR, OBJECT, PINNED, PTR,
+    SENTINEL, STRING, SZARRAY, TYPEDBYREF, U, VALUETYPE, VAR, VOID,
+};
 use crate::shape::{after_number, after_shape, number_in};
 use rtr_bytes::NoMemory;
 use std::alloc::Global;
@@ -47,28 +50,28 @@ const ELEMENTS: Pending = Pending {
 fn is_alone(e: u8) -> bool
     ensures { result ≡ is_alone e }
 {
-    matches!(e, 0x01..=0x0E | 0x16 | 0x18 | 0x19 | 0x1C)
+    matches!(e, VOID..=STRING | TYPEDBYREF | I | U | OBJECT)
 }
 
 /// Whether a compressed number belongs to an element type and no type is to come: VALUETYPE, CLASS, VAR and MVAR.
 fn is_numbered(e: u8) -> bool
     ensures { result ≡ is_numbered e }
 {
-    matches!(e, 0x11 | 0x12 | 0x13 | 0x1E)
+    matches!(e, VALUETYPE | CLASS | VAR | MVAR)
 }
 
 /// Whether a type is to come after an element type: PTR, BYREF, SZARRAY, SENTINEL and PINNED.
 fn is_prefix(e: u8) -> bool
     ensures { result ≡ is_prefix e }
 {
-    matches!(e, 0x0F | 0x10 | 0x1D | 0x41 | 0x45)
+    matches!(e, PTR | BYREF | SZARRAY | SENTINEL | PINNED)
 }
 
 /// Whether a coded type belongs to an element type and a type is to come: CMOD_REQD and CMOD_OPT.
 fn is_modifier(e: u8) -> bool
     ensures { result ≡ is_modifier e }
 {
-    matches!(e, 0x1F | 0x20)
+    matches!(e, CMOD_REQD | CMOD_OPT)
 }
 
 /// What is to come after GENERICINST: the arguments.

@@ -2,7 +2,8 @@
 
 ghost use Rattle.std.specs.Prelude.{◌≡◌, ◌≤◌, ◌<◌, ◌^◌, length, option_copied, IfSome};
 ghost use Rattle.std.specs.Option.{option_map};
-ghost use Rattle.cli_assembly.specs.Types.{after_counted, after_items, after_number, after_shape, number_in};
+ghost use Rattle.rtr_bytes.specs.Compressed.{number_in};
+ghost use Rattle.cli_assembly.specs.Types.{after_counted, after_items, after_number, after_shape};
 
 use rtr_bytes::compressed_at;
 

@@ -7,7 +7,7 @@ use Rattle.std.specs.Prelude.{nat_lt}
 use Rattle.std.specs.List.{AllByRecursion}
 use Rattle.std.specs.Option.{option_map, IfSome}
 use Rattle.std.proofs.lemmas.List.{length-append, length-drop}
-use Rattle.rtr_bytes.specs.Compressed.{IsCompressed, compressed_in, four_bytes_in, two_bytes_in}
+use Rattle.rtr_bytes.specs.Compressed.{IsCompressed, compressed_in, four_bytes_in, number_in, two_bytes_in}
 use Rattle.rtr_bytes.specs.Spelling.{BeginsAt}
 use Rattle.fixup_sigs.specs.declared.fixup.Fixup.{Fixup}
 use Rattle.fixup_sigs.specs.declared.fixup.Fixup.TheVariants as fixups
@@ -15,7 +15,7 @@ use Rattle.fixup_sigs.specs.declared.fixup.SigType.TheVariants as types
 use Rattle.fixup_sigs.specs.declared.fixup.FieldToken.{FieldToken}
 use Rattle.fixup_sigs.specs.Fixup.{IsElement, IsFixup, IsFieldToken, IsSigType, IsPair, flags_of}
 use Rattle.fixup_sigs.specs.Shortest.{fixup_bytes}
-use Rattle.fixup_sigs.specs.Reading.{Found, made, then_in, with_rest, number_in, is_element, element_in, type_in, array_type_in, token}
+use Rattle.fixup_sigs.specs.Reading.{Found, made, then_in, is_element, element_in, type_in, array_type_in, token}
 use Rattle.fixup_sigs.specs.Reading.{row_in, field_in, payload_in, fixup_in, with_next, without_next, fixup_and_next_at, fixup_at}
 
 -- ---- what is found is spelled
@@ -141,7 +141,7 @@ counted (a ∷ more) n k (one, fits) e =
     (λ t v. none_counted n k v)))
 
 counted_found : {P : Type 0} (bytes : List ℕ) (o : Counted) (n : ℕ) (rest : List ℕ)
-    → ◌≡◌ {A = Found ℕ} (option_map (with_rest bytes) o) (Some (n, rest))
+    → ◌≡◌ {A = Found ℕ} (option_map (λ found. (found.0, drop found.1 bytes)) o) (Some (n, rest))
     → ((k : ℕ) → ◌≡◌ {A = Counted} o (Some (n, k)) → drop k bytes ≡ rest → P) → P
 counted_found bytes None n rest e go = none_some n rest e
 counted_found bytes (Some (m, k)) n rest e go =
@@ -149,13 +149,11 @@ counted_found bytes (Some (m, k)) n rest e go =
     go k (let f : ℕ → Counted = λ t. Some (t, k) in ap f same) end
 
 number_sound : IsSound IsCompressed number_in
-unfolding number_in
 number_sound bytes n rest fits e =
     counted_found bytes (compressed_in bytes) n rest e (λ k found end.
     let P : List ℕ → Type 0 = λ t. Begins IsCompressed bytes n t in subst P end (counted bytes n k fits found))
 
 number_whole : IsWhole IsCompressed number_in
-unfolding number_in
 number_whole [] n rest h = absurd h
 number_whole (a ∷ []) n rest (low, is) = rw (lt-ltb a 0x80 low, is) refl
 number_whole (a ∷ b ∷ []) n rest (low, high, byte, is) = rw (le-ltb a 0x80 low, lt-ltb a 0xC0 high, is) refl

@@ -2,7 +2,7 @@
 -- spelling begins there.
 use Rattle.std.specs.Prelude.{ℕ, ◌-◌, ◌==◌, ◌&&◌, List, [], ◌∷◌, drop, length, Bool, true, false, Option, Some, None, if◌then◌else◌, nat_le}
 use Rattle.std.specs.Option.{option_map}
-use Rattle.rtr_bytes.specs.Compressed.{compressed_in}
+use Rattle.rtr_bytes.specs.Compressed.{number_in}
 use Rattle.fixup_sigs.specs.declared.fixup.Fixup.{Fixup}
 use Rattle.fixup_sigs.specs.declared.fixup.Fixup.TheVariants as fixups
 use Rattle.fixup_sigs.specs.declared.fixup.SigType.{SigType}
@@ -22,13 +22,6 @@ made f (Some (x, rest)) = Some (f x, rest)
 abbrev pub then_in : {X Y : Type 0} → Found X → (X → List ℕ → Found Y) → Found Y
 then_in None next = None
 then_in (Some (x, rest)) next = next x rest
-
--- a compressed number (ECMA-335 II.23.2), by how many bytes it has
-abbrev pub with_rest : List ℕ → ℕ × ℕ → ℕ × List ℕ
-with_rest bytes found = (found.0, drop found.1 bytes)
-
-unfoldable pub number_in : List ℕ → Found ℕ
-number_in bytes = option_map (with_rest bytes) (compressed_in bytes)
 
 -- an integer type, BOOLEAN 02 to U8 0B (ECMA-335 II.23.1.16)
 abbrev pub is_element : ℕ → Bool

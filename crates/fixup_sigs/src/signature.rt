@@ -19,7 +19,7 @@ pub enum Payload {
     OfType(SigType),
     /// A field's token.
     OfField(FieldToken),
-    /// An offset, and then the field that is to lie there.
+    /// An offset, and then the field that is to be at it.
     OffsetAndField(u32, FieldToken),
 }
 

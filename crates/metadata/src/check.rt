@@ -29,6 +29,6 @@ pub(crate) enum Check {
     OneAssembly = 41,
     /// Each column is valid.
     Column = 42,
-    /// No list column falls from row to row.
+    /// No list column is less than in the row before.
     ListColumn = 43,
 }

@@ -15,6 +15,10 @@ use crate::schema::{COLUMNS, Column};
 use rtr_bytes::{Fault, NoMemory, ReadRefusal, Span, ensure, u8_or_zero, u32_or_zero, u64_at};
 use std::alloc::Global;
 
+/// Where HeapSizes is in the header.
+const HEAP_SIZES: u32 = 6;
+/// Where Valid is in the header.
+const VALID: u32 = 8;
 /// The bytes of the header before the row counts.
 const FIXED_SIZE: u32 = 24;
 /// The bytes of a row count.
@@ -111,7 +115,7 @@ fn read_counts(alloc: Global, bytes: &[u8], at: u32, valid: u64) -> Result<Table
         place += count_size(is_there);
     }
     Ok(TablesHeader {
-        heap_sizes: u8_or_zero(bytes, at + 6),
+        heap_sizes: u8_or_zero(bytes, at + HEAP_SIZES),
         rows,
         rows_at: place,
     })
@@ -165,12 +169,16 @@ impl TablesHeader {
         ensures header { IfOk result (λ h. IsHeader bytes.now stream.start h) }
     {
         let at = stream.start;
-        let valid = u64_at(bytes, at + 8).unwrap_or(0);
+        let valid = u64_at(bytes, at + VALID).unwrap_or(0);
         let header = read_counts(alloc, bytes, at, valid)?;
         let fits = stream.len >= FIXED_SIZE && header.rows_at <= at + stream.len;
         ensure(fits, Check::TablesHeader as u16, at)?;
-        ensure(header.heap_sizes < 8, Check::HeapSizes as u16, at + 6)?;
-        ensure(all_known(valid), Check::Valid as u16, at + 8)?;
+        ensure(
+            header.heap_sizes < 8,
+            Check::HeapSizes as u16,
+            at + HEAP_SIZES,
+        )?;
+        ensure(all_known(valid), Check::Valid as u16, at + VALID)?;
         check_counts(bytes, at, valid, &header)?;
         Ok(header)
     }

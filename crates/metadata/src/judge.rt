@@ -173,7 +173,7 @@ impl<'a> Judge<'a> {
         Ok(fallen)
     }
 
-    /// Each column is valid, and no list column falls.
+    /// Each column is valid, and no list column is less than in the row before.
     pub(crate) fn check(&self, tables: &[TableLayout]) -> Result<(), Fault>
         requires ready { IsReady self.now }
         requires tables { AreTables self.now.places.now tables.now }
@@ -190,7 +190,7 @@ impl<'a> Judge<'a> {
     }
 }
 
-/// The first place that falls, after one that is known.
+/// The first place whose number is less than in the row before, after one that is known.
 fn first_fallen(before: Option<u32>, falls: bool, place: u32) -> Option<u32>
     ensures { result ≡ or_else before (holds_or (not falls) place) }
 {

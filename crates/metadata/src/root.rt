@@ -13,6 +13,10 @@ use rtr_bytes::{Fault, Span, ensure, u16_or_zero, u32_or_zero};
 const SIGNATURE: u32 = 0x424A_5342;
 /// The bytes of the root but for the version's text.
 const FIXED_SIZE: u32 = 20;
+/// Where the length of the version's text is in the root.
+const VERSION_LENGTH: u32 = 12;
+/// Where the number of streams is in the root, but for the version's text before it.
+const STREAMS: u32 = 18;
 /// The most bytes that the version's text has.
 const LONGEST_VERSION: u32 = 255;
 
@@ -40,14 +44,14 @@ impl Root {
         let start = span.start;
         let is_root = span.len >= FIXED_SIZE && u32_or_zero(bytes, start) == SIGNATURE;
         ensure(is_root, Check::Root as u16, start)?;
-        let version = u32_or_zero(bytes, start + 12);
+        let version = u32_or_zero(bytes, start + VERSION_LENGTH);
         let fits = version <= LONGEST_VERSION
             && version % 4 == 0
             && FIXED_SIZE + version <= span.len;
-        ensure(fits, Check::Version as u16, start + 12)?;
+        ensure(fits, Check::Version as u16, start + VERSION_LENGTH)?;
         Ok(Root {
             headers_at: start + FIXED_SIZE + version,
-            stream_count: u16_or_zero(bytes, start + 18 + version),
+            stream_count: u16_or_zero(bytes, start + STREAMS + version),
         })
     }
 }

@@ -82,8 +82,9 @@ entry_place a index = a.index_at + a.entry_size * (index / 16)
 abbrev pub in_block : Array → ℕ → Option ℕ → Answer
 in_block a index None = broken (entry_place a index)
 in_block a index (Some distance) =
-    if nat_le (a.index_at + distance) (length a.bytes) then path a.bytes (index % 16) weights (a.index_at + distance) else broken
-    (entry_place a index)
+    if nat_le (a.index_at + distance) (length a.bytes)
+    then path a.bytes (index % 16) weights (a.index_at + distance)
+    else broken (entry_place a index)
 
 -- the element of an index
 unfoldable pub element_of : Array → ℕ → Answer

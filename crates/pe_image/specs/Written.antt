@@ -217,5 +217,5 @@ FailsLate bytes = (f : Fault) → first_fault pe_checks bytes ≡ Some f → 13 
 -- they fail none where the CLI header at a place of a part has cb of 72 or more and names metadata in a section
 abbrev pub IsWellFormedWith : List ℕ → List ℕ → ℕ → Type 0
 IsWellFormedWith bytes part start =
-    72 ≤ u32_of part start → IsSome (place_of bytes (u32_of part (start + 8)) (u32_of part (start + 12))) → first_fault pe_checks bytes ≡
-    None
+    72 ≤ u32_of part start → IsSome (place_of bytes (u32_of part (start + 8)) (u32_of part (start + 12)))
+    → first_fault pe_checks bytes ≡ None

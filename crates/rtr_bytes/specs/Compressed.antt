@@ -37,6 +37,10 @@ compressed_in (a ∷ bytes) =
     else if nat_lt a 0xE0 then four_bytes_in a bytes
     else None
 
+-- the number, and the bytes after it
+abbrev pub number_in : List ℕ → Option (ℕ × List ℕ)
+number_in bytes = option_map (λ found. (found.0, drop found.1 bytes)) (compressed_in bytes)
+
 -- the number at a place, and the place after it
 unfoldable pub compressed_at : List ℕ → ℕ → Option (ℕ × ℕ)
 compressed_at bytes at = option_map (λ found. (found.0, at + found.1)) (compressed_in (drop at bytes))

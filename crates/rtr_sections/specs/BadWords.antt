@@ -5,7 +5,7 @@ use Rattle.rtr_sections.specs.Imports.{signatures_at, named_fixup, slot_count}
 
 -- whether a fixup begins at the RVA that the word at a place says
 abbrev pub names_fixup : List ℕ → ℕ → Bool
-names_fixup bytes word = is_some (named_fixup bytes word)
+names_fixup bytes place = is_some (named_fixup bytes place)
 
 -- the first bad word before an end, among a place and those after it by fours; the end where there is none
 pub record IsFirstBad (bytes : List ℕ) (end place first : ℕ) : Type 0 where

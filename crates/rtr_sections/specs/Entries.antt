@@ -32,8 +32,9 @@ back_from start distance = if nat_le distance start then Some (start - distance)
 -- integer says.
 abbrev pub list_place : List ℕ → ℕ → ℕ → ℕ → Option ℕ
 list_place slice start id behind =
-    if id / 2 % 2 == 0 then Some (start + behind) else option_and_then (λ distance. back_from (start + behind) distance.0)
-    (uint_at slice behind)
+    if id / 2 % 2 == 0
+    then Some (start + behind)
+    else option_and_then (λ distance. back_from (start + behind) distance.0) (uint_at slice behind)
 
 -- no list, or the one at its place, which the file's end bounds
 abbrev pub fixups_of_id : List ℕ → Span → ℕ → ℕ → Option (List SlotRef)

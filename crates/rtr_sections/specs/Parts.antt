@@ -132,13 +132,13 @@ section_bytes s = little_bytes 4 s.kind ++ (little_bytes 4 s.rva ++ little_bytes
 -- "RTR" and a zero, version 5.0, Flags, NumberOfSections, and the section records
 abbrev pub header_bytes : ℕ → List RtrSection → List ℕ
 header_bytes flags sections =
-    little_bytes 4 0x00525452 ++ (little_bytes 2
-    5 ++ (little_bytes 2 0 ++ (little_bytes 4 flags ++ (little_bytes 4 5 ++ flat_map section_bytes sections))))
+    little_bytes 4 0x00525452
+    ++ (little_bytes 2 5 ++ (little_bytes 2 0 ++ (little_bytes 4 flags ++ (little_bytes 4 5 ++ flat_map section_bytes sections))))
 
 abbrev pub import_bytes : ImportSection → List ℕ
 import_bytes i =
-    little_bytes 4 i.rva ++ (little_bytes 4
-    i.size ++ (little_bytes 2 i.flags ++ (i.kind ∷ i.entry_size ∷ (little_bytes 4 i.signatures ++ little_bytes 4 i.auxiliary))))
+    little_bytes 4 i.rva
+    ++ (little_bytes 4 i.size ++ (little_bytes 2 i.flags ++ (i.kind ∷ i.entry_size ∷ (little_bytes 4 i.signatures ++ little_bytes 4 i.auxiliary))))
 
 -- RuntimeFunctions, whose unwind words are one after the other from an RVA on
 abbrev pub function_bytes : ℕ → List Function → List ℕ

@@ -84,8 +84,7 @@ asked_of plan = record {
     major = plan.header.major;
     minor = plan.header.minor;
     flags = plan.header.flags;
-    sections = map
-        without_own_range plan.header.sections;
+    sections = map without_own_range plan.header.sections;
   };
   imports = map without_places plan.imports;
   slots = plan.slots;
@@ -102,8 +101,7 @@ shape_of plan = record {
     major = plan.header.major;
     minor = plan.header.minor;
     flags = plan.header.flags;
-    sections = map without_range
-        plan.header.sections;
+    sections = map without_range plan.header.sections;
   };
   imports = map without_places plan.imports;
   slots = map without_word plan.slots;

@@ -69,7 +69,7 @@ impl<'a> File<'a> {
     }
 
     /// The byte at a file offset, and 0 after the end.
-    pub(crate) fn u8_at(&self, at: u32) -> u8
+    pub(crate) fn u8_or_zero(&self, at: u32) -> u8
         ensures { result ≡ slice_index self.now at }
     {
         u8_or_zero(self.bytes, at)
@@ -90,7 +90,7 @@ impl<'a> File<'a> {
     }
 
     /// The 64-bit number at a file offset, and 0 where it passes the end.
-    pub(crate) fn u64_at(&self, at: u32) -> u64
+    pub(crate) fn u64_or_zero(&self, at: u32) -> u64
         ensures { result ≡ unwrap_or (field_at 8 self.now at) 0 }
     {
         u64_at(self.bytes, at).unwrap_or(0)

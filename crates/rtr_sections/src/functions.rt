@@ -20,6 +20,8 @@ pub struct Function {
 
 /// The bytes of an entry.
 pub(crate) const ENTRY_SIZE: u32 = 8;
+/// Where UnwindData is in an entry.
+const UNWIND_DATA: u32 = 4;
 /// The bytes of an entry's unwind word.
 const UNWIND_SIZE: u32 = 4;
 /// The bytes of an instruction.
@@ -33,7 +35,7 @@ impl Function {
         ensures there { is_some result ≡ is_some (unwind_place file.now at) }
         ensures function { IfSome result (λ function. function ≡ function_at file.now at) }
     {
-        let unwind = file.place_of(file.u32_or_zero(at + 4), UNWIND_SIZE)?;
+        let unwind = file.place_of(file.u32_or_zero(at + UNWIND_DATA), UNWIND_SIZE)?;
         Some(Function {
             begin: file.u32_or_zero(at),
             length: file.u32_or_zero(unwind),

@@ -46,6 +46,20 @@ pub(crate) const SIGNATURE: u32 = 0x0052_5452;
 const HEADER_SIZE: u32 = 16;
 /// The bytes of a section record.
 const RECORD_SIZE: u32 = 12;
+/// Where ManagedNativeHeader is in the CLI header.
+const MANAGED_NATIVE_HEADER: u32 = 64;
+/// Where MajorVersion is in the header.
+const MAJOR: u32 = 4;
+/// Where MinorVersion is in the header.
+const MINOR: u32 = 6;
+/// Where Flags is in the header.
+const FLAGS: u32 = 8;
+/// Where NumberOfSections is in the header.
+const NUMBER_OF_SECTIONS: u32 = 12;
+/// Where the RVA is in a section record.
+const SECTION_RVA: u32 = 4;
+/// Where the size is in a section record.
+const SECTION_SIZE: u32 = 8;
 
 /// CompilerIdentifier, a type of section (ReadyToRunSectionType).
 pub(crate) const COMPILER_IDENTIFIER: u32 = 100;
@@ -108,7 +122,7 @@ fn locate(file: &File<'_>, native: Span) -> Result<HeaderPlaces, Fault>
     let Some(header) = file.place_of(native.start, HEADER_SIZE) else {
         return Err(Fault {
             check: Check::NativeHeader as u16,
-            place: file.cli_at() + 64,
+            place: file.cli_at() + MANAGED_NATIVE_HEADER,
         });
     };
     ensure(
@@ -116,7 +130,7 @@ fn locate(file: &File<'_>, native: Span) -> Result<HeaderPlaces, Fault>
         Check::Signature as u16,
         header,
     )?;
-    let count = file.u32_or_zero(header + 12);
+    let count = file.u32_or_zero(header + NUMBER_OF_SECTIONS);
     match records_in(file, native.start, count) {
         Some(records) => Ok(HeaderPlaces {
             header,
@@ -125,7 +139,7 @@ fn locate(file: &File<'_>, native: Span) -> Result<HeaderPlaces, Fault>
         }),
         None => Err(Fault {
             check: Check::SectionRecords as u16,
-            place: header + 12,
+            place: header + NUMBER_OF_SECTIONS,
         }),
     }
 }
@@ -138,8 +152,8 @@ impl RtrSection {
     {
         RtrSection {
             kind: file.u32_or_zero(at),
-            rva: file.u32_or_zero(at + 4),
-            size: file.u32_or_zero(at + 8),
+            rva: file.u32_or_zero(at + SECTION_RVA),
+            size: file.u32_or_zero(at + SECTION_SIZE),
         }
     }
 
@@ -247,7 +261,7 @@ fn check_ranges(file: &File<'_>, sections: &[RtrSection], at: u32) -> Result<(),
         ensure(
             section.is_placed(file),
             Check::SectionRange as u16,
-            place + 4,
+            place + SECTION_RVA,
         )?;
         place += RECORD_SIZE;
     }
@@ -265,7 +279,7 @@ fn check_sizes(sections: &[RtrSection], at: u32) -> Result<(), Fault>
         ensure(
             section.has_whole_imports(),
             Check::ImportSectionsSize as u16,
-            place + 8,
+            place + SECTION_SIZE,
         )?;
         place += RECORD_SIZE;
     }
@@ -297,9 +311,9 @@ impl RtrHeader {
     {
         RtrHeader {
             at,
-            major: file.u16_or_zero(at + 4),
-            minor: file.u16_or_zero(at + 6),
-            flags: file.u32_or_zero(at + 8),
+            major: file.u16_or_zero(at + MAJOR),
+            minor: file.u16_or_zero(at + MINOR),
+            flags: file.u32_or_zero(at + FLAGS),
             sections: Sequence::from_vec(sections),
         }
     }

@@ -32,6 +32,19 @@ pub struct ImportSection {
 /// The bytes of an import record.
 pub(crate) const RECORD_SIZE: u32 = 20;
 
+/// Where Section.Size is in a record.
+const SIZE: u32 = 4;
+/// Where Flags is in a record.
+const FLAGS: u32 = 8;
+/// Where Type is in a record.
+const KIND: u32 = 10;
+/// Where EntrySize is in a record.
+const ENTRY_SIZE: u32 = 11;
+/// Where Signatures is in a record.
+const SIGNATURES: u32 = 12;
+/// Where AuxiliaryData is in a record.
+const AUXILIARY: u32 = 16;
+
 /// The bytes of a cell.
 pub(crate) const CELL_SIZE: u32 = 8;
 /// The bytes of a slot's signature, which is an RVA.
@@ -45,12 +58,12 @@ impl ImportSection {
     {
         ImportSection {
             rva: file.u32_or_zero(at),
-            size: file.u32_or_zero(at + 4),
-            flags: file.u16_or_zero(at + 8),
-            kind: file.u8_at(at + 10),
-            entry_size: file.u8_at(at + 11),
-            signatures: file.u32_or_zero(at + 12),
-            auxiliary: file.u32_or_zero(at + 16),
+            size: file.u32_or_zero(at + SIZE),
+            flags: file.u16_or_zero(at + FLAGS),
+            kind: file.u8_or_zero(at + KIND),
+            entry_size: file.u8_or_zero(at + ENTRY_SIZE),
+            signatures: file.u32_or_zero(at + SIGNATURES),
+            auxiliary: file.u32_or_zero(at + AUXILIARY),
         }
     }
 

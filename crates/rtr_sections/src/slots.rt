@@ -42,7 +42,7 @@ fn slot_at(file: &File<'_>, signature: u32, cell: u32) -> Option<Slot>
     ensures { result ≡ slot_at file.now signature cell }
 {
     let fixup = named_fixup(file, signature)?;
-    let word = file.u64_at(cell);
+    let word = file.u64_or_zero(cell);
     Some(Slot { fixup, word })
 }
 

@@ -15,3 +15,4 @@ mod Counts
 mod Untyped
 mod FullNames
 mod Listed
+mod TypeNames

@@ -57,7 +57,7 @@ nothing_listed : (class row : ℕ) → declares (methods_of no_assembly class) r
 unfolding methods_of column
 nothing_listed zero row = refl
 nothing_listed (suc class) row =
-    ap (λ b. declares (rows_between 1 (cond b (list_start no_assembly tables.MethodDef (suc class + 1) 5) (0 + 1))) row)
+    ap (λ b. declares (rows_between 1 (cond b (list_start no_assembly (suc class + 1) 5) (0 + 1))) row)
     (le-ltb (suc class) 0 (omega arith))
 
 pub declares_none : (files : List (List ℕ)) (asm class row : ℕ) → slice_get files asm ≡ None
@@ -80,7 +80,7 @@ undeclared_first : (a : Assembly) (class : ℕ) → declares (methods_of a class
 unfolding methods_of
 undeclared_first a class =
     let l : 0 < max 1 (column a tables.TypeDef class 5) = omega arith in
-    below (list_end a tables.MethodDef class 5 - list_start a tables.MethodDef class 5) (list_start a tables.MethodDef class 5) 0 l
+    below (list_end a tables.MethodDef class 5 - list_start a class 5) (list_start a class 5) 0 l
 
 undeclared_past : (a : Assembly) (class i : ℕ) → ListsAscend a → row_count a tables.MethodDef ≤ i → declares (methods_of a class) (suc i) ≡ false
 unfolding methods_of
@@ -88,7 +88,7 @@ undeclared_past a class i lists past =
     let ends = lists.methods class in
     let start = ends.0 in
     let end = ends.1 in
-    above (list_end a tables.MethodDef class 5 - list_start a tables.MethodDef class 5) (list_start a tables.MethodDef class 5) (suc i)
+    above (list_end a tables.MethodDef class 5 - list_start a class 5) (list_start a class 5) (suc i)
     (omega (arith, start, end, past))
 
 none_found : (p : ℕ → Bool) (rows : List ℕ) → ((row : ℕ) → p row ≡ false) → find p rows ≡ None

@@ -19,6 +19,7 @@ mod place;
 mod refusal;
 mod resolved;
 mod rows;
+mod type_names;
 mod world;
 
 pub use assemblies::MAX_ASSEMBLIES;

@@ -1,4 +1,4 @@
-use Rattle.std.proofs.Common.{◌≡◌, ◌+◌, ◌∙◌, ℕ, length, ap, arith}
+use Rattle.std.proofs.Common.{◌≡◌, ◌∙◌, ℕ, length, ap, arith}
 use Rattle.rtr_bytes.specs.Compressed.{compressed_bytes}
 use Rattle.cli_assembly.specs.Shortest.{coded_of_token}
 use Rattle.asm_builder.proofs.TypesLen.{coded_is}

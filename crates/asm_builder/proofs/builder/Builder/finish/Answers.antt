@@ -10,7 +10,8 @@ use Rattle.asm_builder.specs.declared.content.Content.{Content}
 use Rattle.asm_builder.specs.Asked.{Asked}
 use Rattle.asm_builder.specs.Built.{IsBuilt}
 use Rattle.asm_builder.specs.Content.{content_of}
-use Rattle.asm_builder.specs.File.{AreSmall, file_length, file_of, metadata_bytes}
+use Rattle.asm_builder.specs.File.{AreSmall, file_of, metadata_bytes}
+use Rattle.asm_builder.proofs.Sizes.{file_length}
 use Rattle.asm_builder.specs.Sound.{IsSound}
 use Rattle.asm_builder.proofs.Assembled.{assembled, passes}
 use Rattle.asm_builder.proofs.MetadataAssembled.{is_pe32, is_plain}

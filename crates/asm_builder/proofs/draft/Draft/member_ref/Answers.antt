@@ -1,7 +1,7 @@
-use Rattle.std.proofs.Common.{◌≡◌, ◌<◌, ◌+◌, ◌^◌, ◌∙◌, ℕ, sym, ap, subst, arith}
+use Rattle.std.proofs.Common.{◌≡◌, ◌<◌, ◌+◌, ◌^◌, ℕ, sym, subst}
 use Rattle.asm_builder.specs.Asked.{Asked, with_member_ref}
 use Rattle.asm_builder.specs.Sound.{IsSound}
-use Rattle.asm_builder.specs.Tested.{IsCounted, text_room}
+use Rattle.asm_builder.specs.Tested.{IsCounted}
 use Rattle.asm_builder.proofs.SoundCalls.{member_ref_counted}
 use Rattle.asm_builder.proofs.draft.Draft.member_ref.Goals as goal
 

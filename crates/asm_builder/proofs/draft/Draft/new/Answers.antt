@@ -1,4 +1,4 @@
-use Rattle.std.proofs.Common.{◌≡◌, ◌<◌, ◌+◌, ◌^◌, ℕ, sym, subst, arith}
+use Rattle.std.proofs.Common.{sym, subst, arith}
 use Rattle.asm_builder.specs.Asked.{Asked}
 use Rattle.asm_builder.specs.Tested.{IsCounted}
 use Rattle.asm_builder.proofs.SoundMethods.{name_counted}

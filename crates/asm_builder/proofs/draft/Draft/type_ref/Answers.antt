@@ -1,4 +1,4 @@
-use Rattle.std.proofs.Common.{◌≡◌, ◌<◌, ◌+◌, ◌^◌, ◌∙◌, ℕ, sym, ap, subst, arith}
+use Rattle.std.proofs.Common.{◌≡◌, ◌<◌, ◌+◌, ◌^◌, ◌∙◌, ℕ, sym, ap, subst}
 use Rattle.asm_builder.specs.Asked.{Asked, with_type_ref}
 use Rattle.asm_builder.specs.Sound.{IsSound}
 use Rattle.asm_builder.specs.Tested.{IsCounted, text_room}
