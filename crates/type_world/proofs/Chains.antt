@@ -15,7 +15,9 @@ use Rattle.cli_assembly.specs.Assemblies.{Assembly, column, has_row, row_count, 
 use Rattle.type_world.specs.declared.identity.TypeId.{TypeId}
 use Rattle.type_world.specs.declared.identity.TypeId.TheVariants as types
 use Rattle.type_world.specs.World.{World, assembly_in, no_assembly, rows_in, rows_of_world}
-use Rattle.type_world.specs.Resolution.{Base, NoBase, Extends, UnresolvedBase, base_of, base_of_class, chain_of}
+use Rattle.type_world.specs.declared.base.Base.{Base}
+use Rattle.type_world.specs.declared.base.Base.TheVariants.{NoBase, Extends, UnresolvedBase}
+use Rattle.type_world.specs.Resolution.{base_of, base_of_class, chain_of}
 use Rattle.type_world.specs.Resolution.{chain_within, elem_eq, then_base, type_eq}
 use Rattle.type_world.proofs.Bound.{both_left, both_right}
 

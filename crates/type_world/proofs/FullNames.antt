@@ -24,7 +24,7 @@ dotted_rest text [] name rest b some e h = absurd (some refl)
 dotted_rest text (n ∷ ns) name rest b some e h =
     h ∙ sym (same_front (n ∷ ns) rest (codes "." ++ name)) ∙ ap (λ t. bytes_eq t ((n ∷ ns) ++ (codes "." ++ name))) (sym e)
 
-bytes_are : (xs ys : List ℕ) → bytes_eq xs ys ≡ true → xs ≡ ys
+pub bytes_are : (xs ys : List ℕ) → bytes_eq xs ys ≡ true → xs ≡ ys
 bytes_are [] [] e = refl
 bytes_are [] (y ∷ ys) e = absurd (cc)
 bytes_are (x ∷ xs) [] e = absurd (cc)

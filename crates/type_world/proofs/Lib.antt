@@ -16,3 +16,10 @@ mod Untyped
 mod FullNames
 mod Listed
 mod TypeNames
+mod TypeRefs
+mod OtherNames
+mod ChainSteps
+mod Ascending
+mod ByPlace
+mod MemberRefs
+mod Repetitions

@@ -67,13 +67,6 @@ declares_none [] asm class row e = nothing_listed class row
 declares_none (file ∷ files) zero class row e = absurd (cc)
 declares_none (file ∷ files) (suc asm) class row e = declares_none files asm class row e
 
-pub declares_some : (files : List (List ℕ)) (asm class row : ℕ) (rows : List ℕ) (file : List ℕ) → slice_get files asm ≡ Some file
-    → rows ≡ methods_of (assembly_of file) class → declares rows row ≡ declares (methods_of (assembly_in (world_of files) asm) class) row
-declares_some files asm class row rows file there same =
-    ap (λ l. declares l row) same
-    ∙ ap (λ a. declares (methods_of a class) row)
-    (sym (assembly_is files asm file (slice_get_within files asm file there) (sym (get_or_from_slice_get files asm file file there))))
-
 -- ---- no type lists row 0, or a row after the last
 
 undeclared_first : (a : Assembly) (class : ℕ) → declares (methods_of a class) 0 ≡ false
@@ -103,7 +96,7 @@ no_class world asm row h =
 
 -- ---- an answer for each row
 
-by_row_is : {X : Type 0} (f : ℕ → Option X) (n row : ℕ) → f zero ≡ None → ((i : ℕ) → n ≤ i → f (suc i) ≡ None)
+pub by_row_is : {X : Type 0} (f : ℕ → Option X) (n row : ℕ) → f zero ≡ None → ((i : ℕ) → n ≤ i → f (suc i) ≡ None)
     → answer_of (map f (range_with_len 1 n)) row ≡ f row
 unfolding nth_row
 by_row_is f n zero first past = sym first
@@ -119,7 +112,7 @@ by_row_is f n (suc i) first past =
 
 -- ---- what is kept of an assembly
 
-kept_at : (world : World) (asm : ℕ) (k : Kept) → slice_get (kept_in world) asm ≡ Some k → k ≡ kept_of world asm
+pub kept_at : (world : World) (asm : ℕ) (k : Kept) → slice_get (kept_in world) asm ≡ Some k → k ≡ kept_of world asm
 kept_at world asm k e =
     let within = slice_get_within (kept_in world) asm k e in
     let long = length-map-range_with_len (kept_of world) 0 (length world) in
@@ -181,7 +174,7 @@ unfolding built_in
 no_built_in zero l = refl
 no_built_in (suc row) l = absurd (omega arith)
 
-past_rows : (bs : List BuiltIn) (row : ℕ) → length bs < row → row_in bs row ≡ None
+pub past_rows : (bs : List BuiltIn) (row : ℕ) → length bs < row → row_in bs row ≡ None
 past_rows [] row l = refl
 past_rows (b ∷ bs) row l =
     ap (λ t. cond t (Some b) (row_in bs (row - 1))) (ne_eqb row 1 (λ e. omega (arith, l, e))) ∙ past_rows bs (row - 1) (omega (arith, l))

@@ -10,7 +10,9 @@ use Rattle.type_world.specs.declared.identity.TypeId.TheVariants as types
 use Rattle.type_world.specs.declared.kind.Kind.{Kind}
 use Rattle.type_world.specs.declared.kind.Kind.TheVariants as kinds
 use Rattle.type_world.specs.World.{World, rows_of_world}
-use Rattle.type_world.specs.Resolution.{Base, NoBase, Extends, UnresolvedBase, base_of, chain_of, chain_within, fits, then_base, type_eq}
+use Rattle.type_world.specs.declared.base.Base.{Base}
+use Rattle.type_world.specs.declared.base.Base.TheVariants.{NoBase, Extends, UnresolvedBase}
+use Rattle.type_world.specs.Resolution.{base_of, chain_of, chain_within, fits, then_base, type_eq}
 use Rattle.type_world.specs.Typing.{common_base, kind_fits, stack_fits, widen, widen_all}
 use Rattle.type_world.proofs.Bound.{both_left, both_right}
 use Rattle.type_world.proofs.Chains.{Has, Reaches, Up, chain_first, chain_reaches, classes_of, count_of, in_chain}

@@ -13,3 +13,9 @@ pub mod Soundness
 pub mod Laws
 pub mod Loading
 pub mod Kept
+pub mod NameNumbers
+pub mod Placed
+pub mod BuiltIns
+pub mod KeptMethods
+pub mod Repeated
+pub mod MethodRefs

@@ -30,7 +30,9 @@ use Rattle.type_world.specs.declared.place.Place.{Place}
 use Rattle.type_world.specs.declared.place.Place.TheVariants.{Integer, Reference}
 use Rattle.type_world.specs.declared.place.Shape.{Shape}
 use Rattle.type_world.specs.World.{World, assembly_in, column_in, has_text, row_of, rows_at}
-use Rattle.type_world.specs.Resolution.{Base, NoBase, Extends, UnresolvedBase, base_of, field_class, is_named, resolve_type}
+use Rattle.type_world.specs.declared.base.Base.{Base}
+use Rattle.type_world.specs.declared.base.Base.TheVariants.{NoBase, Extends, UnresolvedBase}
+use Rattle.type_world.specs.Resolution.{base_of, field_class, is_named, resolve_type}
 use Rattle.type_world.specs.Members.{class_of_method, field_id, field_type, is_built_in, is_stored, signature_of}
 
 -- ---- what a signature's type holds, where it is of the profile

@@ -11,6 +11,10 @@ use Rattle.cli_assembly.specs.Elements.{element_number}
 use Rattle.cli_assembly.specs.Assemblies.{Assembly, coded_token, column, fields_of, methods_of, row_count}
 use Rattle.type_world.specs.declared.identity.TypeId.{TypeId}
 use Rattle.type_world.specs.declared.identity.TypeId.TheVariants as types
+use Rattle.type_world.specs.declared.base.Base.{Base}
+use Rattle.type_world.specs.declared.base.Base.TheVariants.{NoBase, Extends, UnresolvedBase}
+use Rattle.type_world.specs.declared.scope.Scope.{Scope}
+use Rattle.type_world.specs.declared.scope.Scope.TheVariants.{Enclosing, Module, Reference, Unresolved}
 use Rattle.type_world.specs.World.{World, assembly_in, assembly_named, has_text, row_of, rows_in, rows_of_world, text_at}
 
 -- ---- types are equal
@@ -82,11 +86,6 @@ in_type world name (types.Class asm row) = class_in asm (nested_named (assembly_
 in_type world name of = None
 
 -- the row that a scope names, by its table; no other table is a scope that resolves
-pub data Scope : Type 0 where
-  Module : Scope
-  Reference Enclosing : (row : ℕ) → Scope
-  Unresolved : Scope
-
 abbrev pub reference_or_enclosing : Option ℕ → Option ℕ → Scope
 reference_or_enclosing (Some row) enclosing = Reference row
 reference_or_enclosing None (Some row) = Enclosing row
@@ -105,18 +104,21 @@ unfoldable pub scope_of : Assembly → ℕ → Scope
 scope_of assembly row = scope_of_token assembly (coded_token assembly kinds.ResolutionScope (column assembly tables.TypeRef row 0))
 
 -- by its scope, where a way to resolve the enclosing type is given
-abbrev in_scope : World → ℕ → List ℕ → List ℕ → (ℕ → Option TypeId) → Scope → Option TypeId
+abbrev pub in_scope : World → ℕ → List ℕ → List ℕ → (ℕ → Option TypeId) → Scope → Option TypeId
 in_scope world asm namespace name enclosing Module = class_in asm (type_named (assembly_in world asm) namespace name)
 in_scope world asm namespace name enclosing (Reference row) = in_reference world asm namespace name row
 in_scope world asm namespace name enclosing (Enclosing row) = option_and_then (in_type world name) (enclosing row)
 in_scope world asm namespace name enclosing Unresolved = None
 
+abbrev pub by_scope : World → ℕ → (ℕ → Option TypeId) → ℕ → Option TypeId
+by_scope world asm enclosing row =
+    in_scope world asm (text_at (assembly_in world asm) tables.TypeRef row 2) (text_at (assembly_in world asm) tables.TypeRef row 1) enclosing
+    (scope_of (assembly_in world asm) row)
+
 -- one that needs at most so many scopes: a row that comes back to itself by its scopes needs more than there are rows
 unfoldable pub resolve_ref_within : ℕ → World → ℕ → ℕ → Option TypeId
 resolve_ref_within zero world asm row = None
-resolve_ref_within (suc n) world asm row =
-    in_scope world asm (text_at (assembly_in world asm) tables.TypeRef row 2) (text_at (assembly_in world asm) tables.TypeRef row 1)
-    (resolve_ref_within n world asm) (scope_of (assembly_in world asm) row)
+resolve_ref_within (suc n) world asm row = by_scope world asm (resolve_ref_within n world asm) row
 
 abbrev pub resolve_ref : World → ℕ → ℕ → Option TypeId
 resolve_ref world asm row = resolve_ref_within (row_count (assembly_in world asm) tables.TypeRef) world asm row
@@ -135,11 +137,6 @@ resolve_type world asm token =
 -- ---- bases
 
 -- what a class extends (column 3): nothing, a type, or something that doesn't resolve
-pub data Base : Type 0 where
-  NoBase : Base
-  Extends : (of : TypeId) → Base
-  UnresolvedBase : Base
-
 abbrev pub base_type : Option TypeId → Base
 base_type None = UnresolvedBase
 base_type (Some of) = Extends of

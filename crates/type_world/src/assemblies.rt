@@ -3,10 +3,13 @@
 ghost use Rattle.std.specs.Prelude.{◌≡◌, ◌≤◌, ◌<◌, ◌^◌, None, Some, length, slice_get, take, option_copied, IfErr, IfOk, IfSome, OnOk};
 ghost use Rattle.type_world.specs.Loading.{IsRefused, world_of};
 ghost use Rattle.std.specs.Str.{bytes_eq};
-ghost use Rattle.type_world.specs.World.{IsWorld, name_in, duplicate_from, earlier_name, first_duplicate};
+ghost use Rattle.type_world.specs.World.{IsWorld, assembly_in, name_in, duplicate_from, earlier_name, first_duplicate};
+ghost use Rattle.type_world.specs.NameNumbers.{type_numbers, world_numbers};
 
+use crate::name_numbers::{TypeNumbers, number_all};
 use crate::refusal::WorldRefusal;
 use cli_assembly::Assembly;
+use std::alloc::Global;
 use std::marker::Model;
 
 /// A world has at most so many assemblies.
@@ -53,24 +56,26 @@ fn first_duplicate(assemblies: &[Assembly]) -> Option<(usize, usize)>
 #[derive(Debug, Drop)]
 pub(crate) struct Assemblies {
     assemblies: Vec<Assembly>,
+    numbers: Vec<TypeNumbers>,
 }
 
 impl Model for Assemblies {
-    ghost use Rattle.std.specs.Prelude.{ℕ, List};
+    ghost use Rattle.std.specs.Prelude.{◌≡◌, ℕ, List};
     ghost use Rattle.type_world.specs.Loading.{world_of};
+    ghost use Rattle.type_world.specs.NameNumbers.{world_numbers};
     ghost use Rattle.type_world.specs.World.{IsWorld};
 
     ghost Value = { List (List ℕ) };
 
     ghost view = { λ w. w.assemblies.items };
 
-    ghost invariant = { λ w. IsWorld (world_of w.assemblies.items) };
+    ghost invariant = { λ w. IsWorld (world_of w.assemblies.items) × (w.numbers.items ≡ world_numbers (world_of w.assemblies.items)) };
 }
 
 impl Assemblies {
     /// Some assemblies as those of a world. `TooMany` says how many there are, where they are more than 64; else `DuplicateName` names two
     /// that have one simple name.
-    pub(crate) fn new(list: Vec<Assembly>) -> Result<Assemblies, WorldRefusal>
+    pub(crate) fn new(alloc: Global, list: Vec<Assembly>) -> Result<Assemblies, WorldRefusal>
         requires some { 0 < length list.items }
         requires few { length list.items < 2 ^ 32 }
         ensures refused { IfErr result (IsRefused list.items) }
@@ -86,8 +91,41 @@ impl Assemblies {
                 earlier as u32,
                 later as u32,
             )),
-            None => Ok(Assemblies { assemblies: list }),
+            None => Assemblies::numbered(alloc, list),
         }
+    }
+
+    /// Some assemblies that are those of a world, with the numbers of the names of their types.
+    fn numbered(alloc: Global, list: Vec<Assembly>) -> Result<Assemblies, WorldRefusal>
+        requires { IsWorld (world_of list.items) }
+        ensures refused { IfErr result (IsRefused list.items) }
+        ensures is_world { OnOk result (IsWorld (world_of list.items)) }
+        ensures files { IfOk result (λ assemblies. assemblies ≡ list.items) }
+    {
+        match number_all(alloc, &list) {
+            Ok(numbers) => Ok(Assemblies {
+                assemblies: list,
+                numbers,
+            }),
+            Err(_) => Err(WorldRefusal::NoMemory),
+        }
+    }
+
+    /// The numbers of the names of the types of the assembly at a position, by row of TypeDef.
+    pub(crate) fn numbers_at(&self, asm: u8) -> &[u32]
+        ensures { result.now ≡ type_numbers (assembly_in (world_of self.now) asm) }
+    {
+        match self.numbers_of(asm) {
+            Some(numbers) => numbers.as_slice(),
+            None => &[],
+        }
+    }
+
+    /// What is kept of the assembly at a position. `None` exactly where there is none.
+    fn numbers_of(&self, asm: u8) -> Option<&TypeNumbers>
+        ensures { option_copied result ≡ slice_get (world_numbers (world_of self.now)) asm }
+    {
+        self.numbers.get(asm as usize)
     }
 
     /// How many assemblies there are.

@@ -45,7 +45,7 @@ fn is_full_name(text: &[u8], namespace: &[u8], name: &[u8]) -> bool
 
 impl Assemblies {
     /// The text of a column of a row; empty where there is none.
-    fn text_at(&self, table: Table, asm: u8, row: u32, number: u8) -> &str
+    pub(crate) fn text_at(&self, table: Table, asm: u8, row: u32, number: u8) -> &str
         ensures { result.now ≡ text_at (assembly_in (world_of self.now) asm) table row number }
     {
         match self.assembly(asm) {

@@ -1,69 +1,73 @@
 //! The type that declares a method (ECMA-335 II.22.37).
 
-ghost use Rattle.std.specs.Prelude.{◌≡◌, find, map, IfOk};
-ghost use Rattle.cli_assembly.specs.Assemblies.{methods_of, rows_between};
+ghost use Rattle.std.specs.Prelude.{◌≡◌, ◌≤◌, ◌<◌, ◌==◌, Some, None, if◌then◌else◌, slice_get, map, IfOk};
+ghost use Rattle.cli_assembly.specs.Assemblies.{assembly_of, list_end, list_start, row_count};
 ghost use Rattle.metadata.specs.declared.schema.Table.TheVariants as tables;
 ghost use Rattle.type_world.specs.Loading.{world_of};
-ghost use Rattle.type_world.specs.Resolution.{declares, method_class};
-ghost use Rattle.type_world.specs.World.{assembly_in, rows_at};
+ghost use Rattle.type_world.specs.Resolution.{class_in, method_class};
+ghost use Rattle.type_world.specs.World.{rows_at};
 
 use crate::assemblies::Assemblies;
 use crate::identity::TypeId;
+use cli_assembly::{Assembly, lists_ascend};
 use metadata::Table;
 use rtr_bytes::NoMemory;
 use std::alloc::Global;
 
-/// Whether a row is from one up to another.
-fn is_between(start: u32, end: u32, row: u32) -> bool
-    ensures { result ≡ declares (rows_between start end) row }
+/// The first type, from one that begins at a row of MethodDef or before, whose list ends after that row. Row 0 of TypeDef has what is before
+/// the first type's list.
+fn lister_from(assembly: &Assembly, class: u32, row: u32) -> u32
+    requires begins { list_start (assembly_of assembly.now) class 5 ≤ row }
+    requires there { row ≤ row_count (assembly_of assembly.now) tables.MethodDef }
+    requires few { class ≤ row_count (assembly_of assembly.now) tables.TypeDef }
+    ensures begins { list_start (assembly_of assembly.now) result 5 ≤ row }
+    ensures ends { row < list_end (assembly_of assembly.now) tables.MethodDef result 5 }
+    ensures few { result ≤ row_count (assembly_of assembly.now) tables.TypeDef }
 {
-    if row < start {
-        return false;
+    let last = assembly.rows(Table::TypeDef);
+    for of in class..last {
+        if row < assembly.methods(of).end {
+            return of;
+        }
     }
-    if end <= row {
-        return false;
+    last
+}
+
+/// The class of a row of TypeDef; none for row 0.
+fn class_of(asm: u8, row: u32) -> Option<TypeId>
+    ensures { result ≡ class_in asm (if row == 0 then None else Some row) }
+{
+    if row == 0 {
+        None
+    } else {
+        Some(TypeId::Class(asm, row))
     }
-    true
 }
 
 impl Assemblies {
-    /// Whether the list of a type has a row of MethodDef.
-    fn declares_method(&self, asm: u8, class: u32, row: u32) -> bool
-        ensures { result ≡ declares (methods_of (assembly_in (world_of self.now) asm) class) row }
+    /// The types that declare the rows of MethodDef of an assembly, one for each row. The lists ascend, so one pass over both tables does.
+    fn classes_in(
+        &self,
+        alloc: Global,
+        assembly: &Assembly,
+        asm: u8,
+    ) -> Result<Vec<Option<TypeId>>, NoMemory>
+        requires { slice_get self.now asm ≡ Some assembly.now }
+        ensures { IfOk result (λ classes. classes.items ≡ map (method_class (world_of self.now) asm) (rows_at (world_of self.now) asm tables.MethodDef)) }
     {
-        match self.assembly(asm) {
-            Some(assembly) => {
-                let rows = assembly.methods(class);
-                is_between(rows.start, rows.end, row)
-            }
-            None => false,
+        lists_ascend();
+        assembly.bytes();
+        let mut classes = Vec::new(alloc);
+        let mut class = 0;
+        for index in 0..assembly.rows(Table::MethodDef) {
+            class = lister_from(assembly, class, index + 1);
+            classes.push(class_of(asm, class))?;
         }
+        Ok(classes)
     }
 
-    /// The first type whose list has a row of MethodDef.
-    fn declaring_row(&self, asm: u8, row: u32) -> Option<u32>
-        ensures { result ≡ find (λ of. declares (methods_of (assembly_in (world_of self.now) asm) of) row) (rows_at (world_of self.now) asm tables.TypeDef) }
-    {
-        for before in 0..self.rows_at(Table::TypeDef, asm) {
-            if self.declares_method(asm, before + 1, row) {
-                return Some(before + 1);
-            }
-        }
-        None
-    }
-
-    /// The type that declares a row of MethodDef. `None` exactly where no type's list has it.
-    #[tactic(auto, unfolding(crate::specs::Resolution::method_class))]
-    fn method_class(&self, asm: u8, row: u32) -> Option<TypeId>
-        ensures { result ≡ method_class (world_of self.now) asm row }
-    {
-        match self.declaring_row(asm, row) {
-            Some(class) => Some(TypeId::Class(asm, class)),
-            None => None,
-        }
-    }
-
-    /// The types that declare the rows of MethodDef of an assembly, one for each row.
+    /// The types that declare the rows of MethodDef of the assembly at a position, one for each row. There is none where no type's list has
+    /// the row.
     pub(crate) fn method_classes(
         &self,
         alloc: Global,
@@ -71,10 +75,9 @@ impl Assemblies {
     ) -> Result<Vec<Option<TypeId>>, NoMemory>
         ensures { IfOk result (λ classes. classes.items ≡ map (method_class (world_of self.now) asm) (rows_at (world_of self.now) asm tables.MethodDef)) }
     {
-        let mut classes = Vec::new(alloc);
-        for index in 0..self.rows_at(Table::MethodDef, asm) {
-            classes.push(self.method_class(asm, index + 1))?;
+        match self.assembly(asm) {
+            Some(assembly) => self.classes_in(alloc, assembly, asm),
+            None => Ok(Vec::new(alloc)),
         }
-        Ok(classes)
     }
 }

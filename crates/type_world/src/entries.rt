@@ -86,7 +86,7 @@ impl Assemblies {
     }
 
     /// The signature of a row of MethodDef. `None` exactly where there is no such row, or it has no signature of the form.
-    fn signature_of(&self, method: MethodId) -> Option<&MethodSig>
+    pub(crate) fn signature_of(&self, method: MethodId) -> Option<&MethodSig>
         requires { method.asm < BUILT_IN }
         ensures { option_copied result ≡ signature_of (world_of self.now) method }
     {

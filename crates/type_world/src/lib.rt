@@ -5,7 +5,11 @@
 //! `Step` and `Run` of the meaning. They look each member up by its name, at every step.
 #![tactic(auto)]
 
+mod answers;
 mod assemblies;
+mod base;
+mod bases;
+mod built_in;
 mod classes;
 mod declared;
 mod declaring;
@@ -14,15 +18,26 @@ mod entries;
 mod identity;
 mod kind;
 mod laws;
+mod lookups;
+mod members;
+mod methods;
+mod name_numbers;
 mod numbers;
 mod place;
+mod placed;
+mod references;
 mod refusal;
+mod repeated;
 mod resolved;
 mod rows;
+mod scope;
+mod signatures;
 mod type_names;
+mod types;
 mod world;
 
 pub use assemblies::MAX_ASSEMBLIES;
+pub use base::Base;
 pub use ending::Ending;
 pub use identity::{BUILT_IN, FieldId, MethodId, TypeId};
 pub use kind::Kind;

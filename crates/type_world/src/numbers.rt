@@ -12,12 +12,12 @@ use cli_assembly::Assembly;
 use metadata::Table;
 
 /// How many built-in methods there are.
-const BUILT_IN_METHODS: u32 = 8;
+pub(crate) const BUILT_IN_METHODS: u32 = 8;
 /// The number of the first row of TypeDef.
-const FIRST_CLASS: u32 = 16;
+pub(crate) const FIRST_CLASS: u32 = 16;
 
 /// How many rows a table has in some assemblies.
-fn rows_of(assemblies: &[Assembly], table: Table) -> u32
+pub(crate) fn rows_of(assemblies: &[Assembly], table: Table) -> u32
     requires { length assemblies.now ≤ 64 }
     ensures rows { result ≡ rows_of_world (world_of assemblies.now) table }
     ensures few { result ≤ length assemblies.now * 2 ^ 24 }
@@ -42,6 +42,14 @@ fn after(first: u32, place: Option<u32>) -> Option<u32>
 }
 
 impl Assemblies {
+    /// How many rows a table has in all assemblies.
+    pub(crate) fn rows_of_all(&self, table: Table) -> u32
+        ensures rows { result ≡ rows_of_world (world_of self.now) table }
+        ensures few { result ≤ 2 ^ 30 }
+    {
+        rows_of(self.assemblies_before(self.count()), table)
+    }
+
     /// The place of a row among those of all assemblies, from 0.
     fn place_among(&self, table: Table, asm: u8, row: u32) -> Option<u32>
         ensures place { result ≡ place_among (world_of self.now) table asm row }

@@ -1,5 +1,9 @@
 //! Why assemblies are no world.
 
+ghost use Rattle.std.specs.Prelude.{◌≡◌};
+ghost use Rattle.type_world.specs.declared.refusal.WorldRefusal.TheVariants as refusals;
+
+use rtr_bytes::NoMemory;
 use thiserror::Error;
 
 /// Why assemblies are no world.
@@ -15,4 +19,12 @@ pub enum WorldRefusal {
     /// Memory was refused.
     #[error("no memory")]
     NoMemory,
+}
+
+impl From<NoMemory> for WorldRefusal {
+    ghost from_gives = { λ _ e. e ≡ refusals.NoMemory };
+
+    fn from(_e: NoMemory) -> WorldRefusal {
+        WorldRefusal::NoMemory
+    }
 }

@@ -1,31 +1,21 @@
 //! What the rows of a world's assemblies name, resolved once as the world is made.
 
-ghost use Rattle.std.specs.Prelude.{◌≡◌, IfOk, option_copied};
-ghost use Rattle.cli_assembly.specs.Kept.{answer_of, nth_row};
+ghost use Rattle.std.specs.Prelude.{◌≡◌, IfOk};
+ghost use Rattle.cli_assembly.specs.Kept.{answer_of};
 ghost use Rattle.type_world.specs.Kept.{kept_in, kept_of};
 ghost use Rattle.type_world.specs.Loading.{world_of};
 
+use crate::answers::answer_of;
 use crate::assemblies::Assemblies;
 use crate::identity::TypeId;
 use rtr_bytes::NoMemory;
 use std::alloc::Global;
 use std::marker::Model;
 
-/// The item of a row, from 1.
-#[tactic(auto, unfolding(cli_assembly::specs::Kept::nth_row))]
-fn nth_row<T>(items: &[T], row: u32) -> Option<&T>
-    ensures { option_copied result ≡ nth_row items.now row }
-{
-    if row == 0 {
-        None
-    } else {
-        items.get(row as usize - 1)
-    }
-}
-
 /// What is kept of one assembly: for each row the answer.
 #[derive(Debug, Drop)]
 pub(crate) struct Resolved {
+    type_refs: Vec<Option<TypeId>>,
     method_classes: Vec<Option<TypeId>>,
 }
 
@@ -34,7 +24,7 @@ impl Model for Resolved {
 
     ghost Value = { Kept };
 
-    ghost view = { λ r. record { method_classes = r.method_classes.items } };
+    ghost view = { λ r. record { type_refs = r.type_refs.items; method_classes = r.method_classes.items } };
 }
 
 impl Resolved {
@@ -43,15 +33,26 @@ impl Resolved {
     fn of(alloc: Global, assemblies: &Assemblies, asm: u8) -> Result<Resolved, NoMemory>
         ensures { IfOk result (λ resolved. resolved ≡ kept_of (world_of assemblies.now) asm) }
     {
+        let type_refs = assemblies.type_refs(alloc, asm)?;
         let method_classes = assemblies.method_classes(alloc, asm)?;
-        Ok(Resolved { method_classes })
+        Ok(Resolved {
+            type_refs,
+            method_classes,
+        })
+    }
+
+    /// The type that a row of TypeRef names.
+    pub(crate) fn type_ref(&self, row: u32) -> Option<TypeId>
+        ensures { result ≡ answer_of self.now.type_refs row }
+    {
+        answer_of(self.type_refs.as_slice(), row)
     }
 
     /// The type that declares a row of MethodDef.
     pub(crate) fn method_class(&self, row: u32) -> Option<TypeId>
         ensures { result ≡ answer_of self.now.method_classes row }
     {
-        *nth_row(self.method_classes.as_slice(), row)?
+        answer_of(self.method_classes.as_slice(), row)
     }
 }
 

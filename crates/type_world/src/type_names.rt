@@ -4,10 +4,12 @@ ghost use Rattle.std.specs.Prelude.{◌≡◌, ◌&&◌, not, find, option_copie
 ghost use Rattle.metadata.specs.declared.schema.Table.TheVariants as tables;
 ghost use Rattle.type_world.specs.Loading.{world_of};
 ghost use Rattle.type_world.specs.Resolution.{built_in_type, class_in, in_assembly, in_type, is_named, is_nested, nested_named, nests, type_named};
-ghost use Rattle.type_world.specs.World.{assembly_in, has_text, is_text, rows_in};
+ghost use Rattle.type_world.specs.World.{assembly_in, has_text, is_text, rows_in, text_at};
+ghost use Rattle.type_world.specs.NameNumbers.{name_number};
 
 use crate::assemblies::Assemblies;
 use crate::identity::TypeId;
+use crate::name_numbers::name_number;
 use metadata::Table;
 
 /// TypeName, a column of TypeDef (ECMA-335 II.22.37).
@@ -60,7 +62,7 @@ fn class_in(asm: u8, row: Option<u32>) -> Option<TypeId>
 
 impl Assemblies {
     /// Whether a column of a row names a text.
-    fn names_text(&self, table: Table, asm: u8, row: u32, number: u8, text: &str) -> bool
+    pub(crate) fn names_text(&self, table: Table, asm: u8, row: u32, number: u8, text: &str) -> bool
         ensures { result ≡ has_text (assembly_in (world_of self.now) asm) table row number text.now }
     {
         match self.assembly(asm) {
@@ -96,13 +98,36 @@ impl Assemblies {
         self.is_named(asm, row, namespace, name) && !self.is_nested(asm, row)
     }
 
+    /// The same, with the number of the row's name and the number of the name that is looked for.
+    fn is_found(
+        &self,
+        asm: u8,
+        row: u32,
+        namespace: &str,
+        name: &str,
+        own: u32,
+        number: u32,
+    ) -> bool
+        requires own { own ≡ name_number (text_at (assembly_in (world_of self.now) asm) tables.TypeDef row 1) }
+        requires number { number ≡ name_number name.now }
+        ensures { result ≡ (is_named (assembly_in (world_of self.now) asm) row namespace.now name.now && not (is_nested (assembly_in (world_of self.now) asm) row)) }
+    {
+        if own != number {
+            return false;
+        }
+        self.is_outermost(asm, row, namespace, name)
+    }
+
     /// The first row of TypeDef of a namespace and a name that isn't nested.
     #[tactic(auto, unfolding(crate::specs::Resolution::type_named))]
     fn type_named(&self, asm: u8, namespace: &str, name: &str) -> Option<u32>
         ensures { result ≡ type_named (assembly_in (world_of self.now) asm) namespace.now name.now }
     {
+        let numbers = self.numbers_at(asm);
+        let number = name_number(name.as_bytes());
         for before in 0..self.rows_at(Table::TypeDef, asm) {
-            if self.is_outermost(asm, before + 1, namespace, name) {
+            let own = numbers[before as usize];
+            if self.is_found(asm, before + 1, namespace, name, own, number) {
                 return Some(before + 1);
             }
         }

@@ -4,14 +4,14 @@ ghost use Rattle.std.specs.Prelude.{◌≡◌, ◌≤◌, ◌<◌, ◌^◌, leng
 ghost use Rattle.type_world.specs.Loading.{IsRefused, world_of};
 ghost use Rattle.type_world.specs.World.{IsWorld};
 ghost use Rattle.type_world.specs.Entries.{can_start, entry_named, entry_point};
-ghost use Rattle.type_world.specs.Kept.{kept_in};
-ghost use Rattle.type_world.specs.Numbers.{method_number, type_number};
+ghost use Rattle.type_world.specs.Numbers.{method_number, method_numbered, type_number, type_numbered};
 ghost use Rattle.type_world.specs.Profile.{is_abstract, method_flag};
 
 use crate::assemblies::Assemblies;
 use crate::identity::{BUILT_IN, MethodId, TypeId};
+use crate::methods::Methods;
 use crate::refusal::WorldRefusal;
-use crate::resolved::{Resolved, resolve_all};
+use crate::types::Types;
 use cli_assembly::{Assembly, METHOD_STATIC};
 use std::alloc::Global;
 use std::marker::Model;
@@ -21,20 +21,15 @@ use std::marker::Model;
 /// memory.
 #[derive(Debug, Drop)]
 pub struct World {
-    assemblies: Assemblies,
-    resolved: Vec<Resolved>,
+    methods: Methods,
 }
 
 impl Model for World {
-    ghost use Rattle.std.specs.Prelude.{◌≡◌, ℕ, List};
-    ghost use Rattle.type_world.specs.Loading.{world_of};
-    ghost use Rattle.type_world.specs.Kept.{kept_in};
+    ghost use Rattle.std.specs.Prelude.{ℕ, List};
 
     ghost Value = { List (List ℕ) };
 
-    ghost view = { λ w. w.assemblies };
-
-    ghost invariant = { λ w. w.resolved.items ≡ kept_in (world_of w.assemblies) };
+    ghost view = { λ w. w.methods };
 }
 
 impl World {
@@ -47,14 +42,10 @@ impl World {
         ensures is_world { OnOk result (IsWorld (world_of list.items)) }
         ensures files { IfOk result (λ world. world ≡ list.items) }
     {
-        let assemblies = Assemblies::new(list)?;
-        match resolve_all(alloc, &assemblies) {
-            Ok(resolved) => Ok(World {
-                assemblies,
-                resolved,
-            }),
-            Err(_) => Err(WorldRefusal::NoMemory),
-        }
+        let assemblies = Assemblies::new(alloc, list)?;
+        let types = Types::new(alloc, assemblies)?;
+        let methods = Methods::new(alloc, types)?;
+        Ok(World { methods })
     }
 
     /// How many assemblies there are.
@@ -63,21 +54,35 @@ impl World {
         ensures some { 0 < result }
         ensures few { result ≤ 64 }
     {
-        self.assemblies.count()
+        self.assemblies().count()
     }
 
     /// The assembly at a position, from 0. `None` exactly where there is none.
     pub fn assembly(&self, asm: u8) -> Option<&Assembly>
         ensures { option_copied result ≡ slice_get self.now asm }
     {
-        self.assemblies.assembly(asm)
+        self.assemblies().assembly(asm)
     }
 
-    /// What is kept of the assembly at a position.
-    pub(crate) fn resolved_at(&self, asm: u8) -> Option<&Resolved>
-        ensures { option_copied result ≡ slice_get (kept_in (world_of self.now)) asm }
+    /// What the tokens of its assemblies name as methods.
+    pub(crate) fn methods(&self) -> &Methods
+        ensures { result.now ≡ self.now }
     {
-        self.resolved.get(asm as usize)
+        &self.methods
+    }
+
+    /// What they name as types.
+    pub(crate) fn types(&self) -> &Types
+        ensures { result.now ≡ self.now }
+    {
+        self.methods().types()
+    }
+
+    /// The assemblies.
+    fn assemblies(&self) -> &Assemblies
+        ensures { result.now ≡ self.now }
+    {
+        self.types().assemblies()
     }
 
     /// The number of a method: the built-in ones have 0 to 7, and the rows of MethodDef follow. `None` exactly where there is no such
@@ -85,7 +90,7 @@ impl World {
     pub fn method_number(&self, method: MethodId) -> Option<u32>
         ensures { result ≡ method_number (world_of self.now) method }
     {
-        self.assemblies.method_number(method)
+        self.assemblies().method_number(method)
     }
 
     /// The number of a type: `System.Object` 0, `System.String` 1, `System.Console` 12, an array that of its element type, and a row of
@@ -93,21 +98,35 @@ impl World {
     pub fn type_number(&self, of: TypeId) -> Option<u32>
         ensures { result ≡ type_number (world_of self.now) of }
     {
-        self.assemblies.type_number(of)
+        self.assemblies().type_number(of)
+    }
+
+    /// The method of a number. `None` exactly where no method has it.
+    pub fn method_of(&self, number: u32) -> Option<MethodId>
+        ensures { result ≡ method_numbered (world_of self.now) number }
+    {
+        self.assemblies().method_of(number)
+    }
+
+    /// The type of a number. `None` exactly where no type has it.
+    pub fn type_of(&self, number: u32) -> Option<TypeId>
+        ensures { result ≡ type_numbered (world_of self.now) number }
+    {
+        self.assemblies().type_of(number)
     }
 
     /// Whether a method is abstract.
     pub fn is_abstract(&self, method: MethodId) -> bool
         ensures { result ≡ is_abstract (world_of self.now) method }
     {
-        self.assemblies.is_abstract(method)
+        self.assemblies().is_abstract(method)
     }
 
     /// Whether a method is static.
     pub fn is_static(&self, method: MethodId) -> bool
         ensures { result ≡ method_flag (world_of self.now) method METHOD_STATIC }
     {
-        self.assemblies.is_static(method)
+        self.assemblies().is_static(method)
     }
 
     /// The method of the entry point token of the assembly at position 0 (ECMA-335 II.25.3.3.2). `None` exactly where it is no MethodDef
@@ -115,14 +134,14 @@ impl World {
     pub fn entry_point(&self) -> Option<MethodId>
         ensures { result ≡ entry_point (world_of self.now) }
     {
-        self.assemblies.entry_point()
+        self.assemblies().entry_point()
     }
 
     /// The one static method of a name in the first type of a full name. `None` exactly where there is not exactly one.
     pub fn entry_named(&self, class: &str, name: &str) -> Option<MethodId>
         ensures { result ≡ entry_named (world_of self.now) class.now name.now }
     {
-        self.assemblies.entry_named(class, name)
+        self.assemblies().entry_named(class, name)
     }
 
     /// Whether a run can begin at a row of MethodDef with some numbers: it is static, it has no `this`, its result is void or an integer, and
@@ -131,6 +150,6 @@ impl World {
         requires { entry.asm < BUILT_IN }
         ensures { result ≡ can_start (world_of self.now) entry numbers.now }
     {
-        self.assemblies.can_start(entry, numbers)
+        self.assemblies().can_start(entry, numbers)
     }
 }

@@ -1,14 +1,7 @@
-use Rattle.std.proofs.Common.{◌+◌, ◌++◌, ◌∷◌, [], map, sym, ap, arith, ◌∙◌}
-use Rattle.std.proofs.lemmas.List.FromFn.{map-range_with_len_more}
-use Rattle.std.specs.List.{range_with_len}
-use Rattle.type_world.specs.Loading.{world_of}
-use Rattle.type_world.specs.Resolution.{method_class}
+use Rattle.std.proofs.Common.{sym, ap, ◌∙◌, option_copied}
+use Rattle.type_world.proofs.Ascending.{nothing_declared}
 use Rattle.type_world.proofs.assemblies.Assemblies.method_classes.Goals as goal
 
-pub loop-index-preserved : goal.loop-index-preserved
-loop-index-preserved c =
-    let answer = method_class (world_of c.args.self.now) c.args.asm in
-    c.in_ok-push.ensures.items
-    ∙ ap (λ xs. xs ++ c.method_class.result ∷ []) c.loop-index.invariant
-    ∙ ap (λ of. map answer (range_with_len 1 c.loop-index.index) ++ of ∷ []) c.method_class.ensures
-    ∙ sym (map-range_with_len_more answer 1 c.loop-index.index (c.loop-index.index + 1) (omega arith))
+pub returns-in-None : goal.returns-in-None
+returns-in-None c =
+    c.new.ensures.items ∙ nothing_declared c.args.self.now c.args.asm (sym c.assembly.ensures ∙ ap option_copied c.in-None.is)
