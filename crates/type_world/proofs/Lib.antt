@@ -23,3 +23,12 @@ mod Ascending
 mod ByPlace
 mod MemberRefs
 mod Repetitions
+mod PlaceLists
+mod Judging
+mod ClassRows
+mod Meets
+mod ProfileKept
+mod RowMarks
+mod CilBodies
+mod BuiltIns
+mod ComesBack

@@ -25,6 +25,6 @@ kept_of world asm = record {
 abbrev pub kept_in : World → List Kept
 kept_in world = map (kept_of world) (range_with_len 0 (length world))
 
--- while the rows of TypeRef are resolved: the answer of a row stands, and another row is asked by the answers so far
+-- one more round over the rows of TypeRef: a row that has an answer keeps it, and another one is resolved by the answers so far
 abbrev pub next_ref : World → ℕ → List (Option TypeId) → ℕ → Option TypeId
 next_ref world asm known row = option_or (answer_of known row) (by_scope world asm (answer_of known) row)

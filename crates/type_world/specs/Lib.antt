@@ -19,3 +19,4 @@ pub mod BuiltIns
 pub mod KeptMethods
 pub mod Repeated
 pub mod MethodRefs
+pub mod Profiled

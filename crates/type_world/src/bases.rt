@@ -1,6 +1,6 @@
 //! What types extend (ECMA-335 II.22.37).
 
-ghost use Rattle.std.specs.Prelude.{◌≡◌, Some, slice_get};
+ghost use Rattle.std.specs.Prelude.{◌≡◌, ◌⊎◌, ◌<◌, ◌^◌, Some, slice_get};
 ghost use Rattle.std.specs.List.{list_any};
 ghost use Rattle.type_world.specs.declared.identity.TypeId.TheVariants as types;
 ghost use Rattle.type_world.specs.Loading.{world_of};
@@ -22,6 +22,15 @@ pub(crate) fn is_type(of: TypeId, other: TypeId) -> bool
     ensures { result ≡ type_eq of other }
 {
     of == other
+}
+
+/// The mark after a step of a walk: it is set anew at the steps 0, 1, 3, 7 and so on, so that a walk that comes back to a type meets a mark
+/// soon.
+pub(crate) fn mark_after(step: u32, mark: TypeId, base: TypeId) -> TypeId
+    requires { step < 2 ^ 31 }
+    ensures { (result ≡ mark) ⊎ (result ≡ base) }
+{
+    if step & (step + 1) == 0 { base } else { mark }
 }
 
 /// A type as a base, or what doesn't resolve.
@@ -70,11 +79,13 @@ impl Types {
         }
     }
 
-    /// Whether a type is another one, or one of those that it extends. The chain is walked once.
+    /// Whether a type is another one, or one of those that it extends. The chain is walked once, to its end or until it comes
+    /// back to one of its types.
     pub(crate) fn extends(&self, of: TypeId, to: TypeId) -> bool
         ensures { result ≡ list_any (type_eq to) (chain_of (world_of self.now) of) }
     {
         let mut base = of;
+        let mut mark = of;
         for step in 0..self.longest_chain() {
             if is_type(to, base) {
                 return true;
@@ -84,6 +95,10 @@ impl Types {
                 Base::NoBase => return false,
                 Base::UnresolvedBase => return false,
             }
+            if is_type(base, mark) {
+                return false;
+            }
+            mark = mark_after(step, mark, base);
         }
         false
     }

@@ -49,16 +49,6 @@ fn class_token(assembly: &Assembly, row: u32) -> Option<u32>
 }
 
 impl Assemblies {
-    /// The rows of MethodDef that a row of TypeDef lists, in the assembly at a position; none where there is no assembly.
-    fn methods_at(&self, asm: u8, class: u32) -> Range<u32>
-        ensures { rows_between result.start result.end ≡ methods_of (assembly_in (world_of self.now) asm) class }
-    {
-        match self.assembly(asm) {
-            Some(assembly) => assembly.methods(class),
-            None => 1..1,
-        }
-    }
-
     /// The signature of a method that a row of MemberRef names, in the assembly at a position. `None` exactly where there is no such row,
     /// or it has no signature of the form.
     fn member_sig(&self, asm: u8, row: u32) -> Option<&MethodSig>

@@ -8,6 +8,7 @@ ghost use Rattle.type_world.specs.Members.{member_method, resolve_method};
 
 use crate::answers::nth_row;
 use crate::identity::MethodId;
+use crate::profile::Profile;
 use crate::types::Types;
 use metadata::Table;
 use rtr_bytes::{NoMemory, Sequence};
@@ -47,10 +48,10 @@ impl Types {
     }
 }
 
-/// The types of a world, with the methods that its rows of MemberRef name. Contracts see the bytes of the files.
+/// What is in the profile of a world, with the methods that its rows of MemberRef name. Contracts see the bytes of the files.
 #[derive(Debug, Drop)]
 pub(crate) struct Methods {
-    types: Types,
+    profile: Profile,
     members: Vec<Sequence<Option<MethodId>>>,
 }
 
@@ -61,25 +62,32 @@ impl Model for Methods {
 
     ghost Value = { List (List ℕ) };
 
-    ghost view = { λ m. m.types };
+    ghost view = { λ m. m.profile };
 
-    ghost invariant = { λ m. m.members.items ≡ member_methods_in (world_of m.types) };
+    ghost invariant = { λ m. m.members.items ≡ member_methods_in (world_of m.profile) };
 }
 
 impl Methods {
-    /// The types with the methods that are named in each assembly.
-    pub(crate) fn new(alloc: Global, types: Types) -> Result<Methods, NoMemory>
-        ensures files { IfOk result (λ methods. methods ≡ types) }
+    /// What is in the profile, with the methods that are named in each assembly.
+    pub(crate) fn new(alloc: Global, profile: Profile) -> Result<Methods, NoMemory>
+        ensures files { IfOk result (λ methods. methods ≡ profile) }
     {
-        let members = types.all_member_methods(alloc)?;
-        Ok(Methods { types, members })
+        let members = profile.types().all_member_methods(alloc)?;
+        Ok(Methods { profile, members })
+    }
+
+    /// What is in the profile.
+    pub(crate) fn profile(&self) -> &Profile
+        ensures { result.now ≡ self.now }
+    {
+        &self.profile
     }
 
     /// The types.
     pub(crate) fn types(&self) -> &Types
         ensures { result.now ≡ self.now }
     {
-        &self.types
+        self.profile().types()
     }
 
     /// What is kept of the assembly at a position.

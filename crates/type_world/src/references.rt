@@ -159,7 +159,7 @@ impl Assemblies {
         }
     }
 
-    /// The answer of a row of TypeRef after one more round.
+    /// The answer of a row of TypeRef after one more round, by the answers so far.
     fn next_ref(&self, asm: u8, row: u32, known: &[Option<TypeId>]) -> Option<TypeId>
         ensures { result ≡ next_ref (world_of self.now) asm known.now row }
     {
@@ -196,9 +196,9 @@ impl Assemblies {
         Ok(refs)
     }
 
-    /// The types that the rows of TypeRef of an assembly name, one for each row. Each round asks the rows that have no answer yet, and the
-    /// first round that changes nothing is the last. So there are two rounds more than types are nested in one another; a file whose
-    /// scopes are one long chain takes as many rounds as it has rows.
+    /// The types that the rows of TypeRef of an assembly name, one for each row. A round goes through all rows, and resolves those that have
+    /// no answer yet; the first round that changes nothing is the last. Where types are nested n deep there are at most n + 2 rounds. A
+    /// file whose scopes are one long chain takes as many rounds as it has rows, so its time is the square of their number.
     pub(crate) fn type_refs(&self, alloc: Global, asm: u8) -> Result<Vec<Option<TypeId>>, NoMemory>
         ensures { IfOk result (λ refs. refs.items ≡ map (resolve_ref (world_of self.now) asm) (rows_at (world_of self.now) asm tables.TypeRef)) }
     {

@@ -13,6 +13,7 @@ use metadata::Table;
 impl Types {
     /// A type that the base chain of a type comes back to, where it comes back to one. One type of the chain is remembered, after twice as
     /// many bases each time, and the chain is followed until it comes back to that: after at most three times as many bases as it has types.
+    /// What a search finds doesn't depend on this type; how long it takes does. So that one is found where there is one is not stated.
     pub(crate) fn repeated(&self, of: TypeId) -> Option<TypeId>
         ensures { IfSome result (IsRepeated (world_of self.now)) }
     {

@@ -72,7 +72,7 @@ impl Assemblies {
     }
 
     /// Whether a row of TypeDef has a namespace and a name.
-    fn is_named(&self, asm: u8, row: u32, namespace: &str, name: &str) -> bool
+    pub(crate) fn is_named(&self, asm: u8, row: u32, namespace: &str, name: &str) -> bool
         ensures { result ≡ is_named (assembly_in (world_of self.now) asm) row namespace.now name.now }
     {
         self.names_text(Table::TypeDef, asm, row, TYPE_NAME, name)

@@ -1,6 +1,6 @@
 //! The types of a world: what the tokens of its assemblies name as types, resolved once as the world is made.
 
-ghost use Rattle.std.specs.Prelude.{◌≡◌, ◌+◌, IfOk, option_copied, slice_get};
+ghost use Rattle.std.specs.Prelude.{◌≡◌, ◌<◌, ◌+◌, ◌^◌, IfOk, option_copied, slice_get};
 ghost use Rattle.metadata.specs.declared.schema.Table.TheVariants as tables;
 ghost use Rattle.type_world.specs.Kept.{kept_in};
 ghost use Rattle.type_world.specs.Loading.{world_of};
@@ -11,7 +11,7 @@ ghost use Rattle.type_world.specs.World.{rows_of_world};
 
 use crate::assemblies::Assemblies;
 use crate::base::Base;
-use crate::bases::is_type;
+use crate::bases::{is_type, mark_after};
 use crate::declared::built_in_class;
 use crate::identity::{BUILT_IN, MethodId, TypeId};
 use crate::resolved::{Resolved, resolve_all};
@@ -66,7 +66,8 @@ impl Types {
     /// The most types that are asked in one chain: one more than there are rows of TypeDef. A chain that is longer comes back to one of
     /// its types.
     pub(crate) fn longest_chain(&self) -> u32
-        ensures { result ≡ rows_of_world (world_of self.now) tables.TypeDef + 1 }
+        ensures most { result ≡ rows_of_world (world_of self.now) tables.TypeDef + 1 }
+        ensures few { result < 2 ^ 31 }
     {
         self.classes + 1
     }
@@ -133,11 +134,12 @@ impl Types {
         is_type(to, TypeId::Object) || self.extends(from, to)
     }
 
-    /// The nearest type that two types fit.
+    /// The nearest type that two types fit. For each base of the one the chain of the other is walked.
     pub(crate) fn common_base(&self, of: TypeId, other: TypeId) -> TypeId
         ensures { result ≡ common_base (world_of self.now) of other }
     {
         let mut base = of;
+        let mut mark = of;
         for step in 0..self.longest_chain() {
             if self.extends(other, base) {
                 return base;
@@ -147,6 +149,10 @@ impl Types {
                 Base::NoBase => return TypeId::Object,
                 Base::UnresolvedBase => return TypeId::Object,
             }
+            if is_type(base, mark) {
+                return TypeId::Object;
+            }
+            mark = mark_after(step, mark, base);
         }
         TypeId::Object
     }

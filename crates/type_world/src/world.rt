@@ -10,6 +10,7 @@ ghost use Rattle.type_world.specs.Profile.{is_abstract, method_flag};
 use crate::assemblies::Assemblies;
 use crate::identity::{BUILT_IN, MethodId, TypeId};
 use crate::methods::Methods;
+use crate::profile::Profile;
 use crate::refusal::WorldRefusal;
 use crate::types::Types;
 use cli_assembly::{Assembly, METHOD_STATIC};
@@ -44,7 +45,8 @@ impl World {
     {
         let assemblies = Assemblies::new(alloc, list)?;
         let types = Types::new(alloc, assemblies)?;
-        let methods = Methods::new(alloc, types)?;
+        let profile = Profile::new(alloc, types)?;
+        let methods = Methods::new(alloc, profile)?;
         Ok(World { methods })
     }
 
@@ -71,7 +73,14 @@ impl World {
         &self.methods
     }
 
-    /// What they name as types.
+    /// Which of its types and methods are in the profile.
+    pub(crate) fn profile(&self) -> &Profile
+        ensures { result.now ≡ self.now }
+    {
+        self.methods().profile()
+    }
+
+    /// What its tokens name as types.
     pub(crate) fn types(&self) -> &Types
         ensures { result.now ≡ self.now }
     {

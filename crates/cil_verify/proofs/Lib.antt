@@ -1,0 +1,11 @@
+mod OperationTests
+mod Followed
+mod Indexed
+mod Settled
+mod Depth
+mod Widened
+mod Halves
+mod Marked
+mod Counted
+mod Fitted
+mod Found
