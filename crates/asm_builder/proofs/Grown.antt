@@ -126,7 +126,8 @@ module _ (a : Asked) (m : Method) (has : has_locals m ≡ true) where
       let few = locals_few a.methods in
       omega (arith, one, same, count, each, rows, few)
 
-  pub two_rows : Grown a (with_method a m) tables.MethodDef own (total text_size own) (total blob_size own + total blob_size (locals_cells m))
+  pub two_rows : Grown a (with_method a m) tables.MethodDef own (total text_size own)
+      (total blob_size own + total blob_size (locals_cells m))
   unfolding rows_with strings_size blobs_size
   two_rows =
       let step = adds_both a m has in

@@ -1,5 +1,5 @@
 -- The length of a built file by the lengths of its parts, and where its tables and heaps are.
-use Rattle.std.specs.Prelude.{ℕ, ◌+◌, ◌*◌, List, length, map, filter, sum_by}
+use Rattle.std.specs.Prelude.{ℕ, ◌+◌, ◌*◌, length, map, filter, sum_by}
 use Rattle.std.specs.List.{range_with_len}
 use Rattle.metadata.specs.Tables.{Layout, table_size}
 use Rattle.pe_image.specs.Places.{aligned}

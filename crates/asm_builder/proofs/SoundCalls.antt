@@ -13,7 +13,8 @@ use Rattle.asm_builder.specs.declared.asked.Field.{Field}
 use Rattle.asm_builder.specs.declared.asked.TypeDef.{TypeDef}
 use Rattle.asm_builder.specs.Asked.{Asked, type_def, with_assembly_ref, with_attribute, with_field, with_member_ref}
 use Rattle.asm_builder.specs.Asked.{with_type_def, with_type_ref, with_user_string}
-use Rattle.asm_builder.specs.Cells.{Cell, Number, Coded, base_cell, assembly_ref_cells, attribute_cells, field_cells, member_ref_cells, tables_of, type_def_cells}
+use Rattle.asm_builder.specs.Cells.{Cell, Number, Coded, base_cell, assembly_ref_cells, attribute_cells, field_cells}
+use Rattle.asm_builder.specs.Cells.{member_ref_cells, tables_of, type_def_cells}
 use Rattle.asm_builder.specs.Cells.{type_ref_cells}
 use Rattle.asm_builder.specs.Content.{all_after, no_heaps, blob_bytes, text_bytes}
 use Rattle.asm_builder.specs.Sound.{IsSound, are_few, are_owned, are_sound_tables, is_name, is_sound_cell, is_writable_field, takes}
@@ -80,7 +81,8 @@ module _ (a : Asked) (name : List ℕ) where
   pub assembly_ref_counted : (s v k s' : ℕ) → IsCounted a s v k → IsSound (with_assembly_ref a name)
       → (s + text_room name < 2 ^ 24 → s' ≡ s + text_room name) → IsCounted (with_assembly_ref a name) s' v k
   assembly_ref_counted s v k s' counted all plus =
-      grown_counted _ _ _ _ _ _ _ _ assembly_ref_grown assembly_ref_texts assembly_ref_blobs s v k counted all s' v k plus (λ small. omega arith)
+      grown_counted _ _ _ _ _ _ _ _ assembly_ref_grown assembly_ref_texts assembly_ref_blobs s v k counted all s' v k
+      plus (λ small. omega arith)
       counted.code_is
 
 -- ---- TypeRef
@@ -428,7 +430,8 @@ module _ (a : Asked) (units : List ℕ) where
             record { room_fits = omega (arith, more, user) },
       )
 
-  pub user_string_counted : (s v k : ℕ) → IsCounted a s v k → IsSound (with_user_string a units) → IsCounted (with_user_string a units) s v k
+  pub user_string_counted : (s v k : ℕ) → IsCounted a s v k → IsSound (with_user_string a units)
+      → IsCounted (with_user_string a units) s v k
   unfolding strings_size blobs_size
   user_string_counted s v k counted all =
       let strings = ap (λ (t : List (List (List Cell))). length (all_after no_heaps t).strings) same_tables in

@@ -12,7 +12,8 @@ use Rattle.asm_builder.specs.declared.asked.TypeDef.{TypeDef}
 use Rattle.asm_builder.specs.Asked.{Asked, only_name, with_method}
 use Rattle.asm_builder.specs.Cells.{Cell, bodies_rva, body_size, has_locals, is_empty, locals_cells, method_cells, rva_of, tables_of}
 use Rattle.asm_builder.specs.Content.{blob_bytes, text_bytes}
-use Rattle.asm_builder.specs.Sound.{IsSound, are_bytes, are_few, are_sound_tables, are_writable_locals, code_size, is_name, is_writable_method}
+use Rattle.asm_builder.specs.Sound.{IsSound, are_bytes, are_few, are_sound_tables, are_writable_locals, code_size}
+use Rattle.asm_builder.specs.Sound.{is_name, is_writable_method}
 use Rattle.asm_builder.specs.Sound.{is_writable_sig}
 use Rattle.asm_builder.specs.Tested.{FitsMethod, FitsName, IsCounted, blob_room, blobs_size, capped, locals_room, strings_size, text_room}
 use Rattle.asm_builder.proofs.Counts.{few_methods}
@@ -68,7 +69,8 @@ module _ (a : Asked) (m : Method) where
 
   method_blobs : IsCap (total blob_size method_row + locals_total m) (blob_room (method_sig_bytes m.sig) + locals_room m)
   method_blobs =
-      subst (λ (n : ℕ). IsCap (total blob_size method_row + locals_total m) (blob_room (method_sig_bytes m.sig) + n)) (sym (locals_capped m))
+      subst (λ (n : ℕ). IsCap (total blob_size method_row + locals_total m) (blob_room (method_sig_bytes m.sig) + n))
+      (sym (locals_capped m))
       (cap_two (total blob_size method_row + locals_total m) (length (blob_bytes (method_sig_bytes m.sig))) (locals_total m) (omega arith))
 
   one_method : length (a.methods ++ m ∷ []) ≡ length a.methods + 1

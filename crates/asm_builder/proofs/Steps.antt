@@ -60,7 +60,8 @@ rows_more : (at : ℕ) (ms : List Method) (m : Method)
 rows_more at [] m = refl
 rows_more at (x ∷ ms) m = ap (λ (l : List (List Cell)). method_cells at x ∷ l) (rows_more (at + body_size x) ms m)
 
-by_locals : (b : Bool) (x : Method) (ms ns : List Method) → locals_of ns ≡ ms → (if b then x ∷ locals_of ns else locals_of ns) ≡ (if b then x ∷ ms else ms)
+by_locals : (b : Bool) (x : Method) (ms ns : List Method) → locals_of ns ≡ ms
+    → (if b then x ∷ locals_of ns else locals_of ns) ≡ (if b then x ∷ ms else ms)
 by_locals true x ms ns e = ap (λ (l : List Method). x ∷ l) e
 by_locals false x ms ns e = e
 

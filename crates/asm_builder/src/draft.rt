@@ -252,7 +252,7 @@ impl Draft {
         ensures refused { IfErr result (λ e. (e ≡ refusals.Unsound) ↔ ¬ (IsEntry self entry)) }
         ensures entry { OnOk result (IsEntry self entry) }
         ensures bytes { IfOk result (λ bytes. bytes.items ≡ file_of (content_of self) entry) }
-        // It passes every check of an assembly, and what stands in it was asked for.
+        // It passes every check of an assembly, and it has the rows of the builder and no others.
         ensures well_formed { IfOk result (λ bytes. first_fault (assembly_checks bytes.items) bytes.items ≡ None) }
         ensures built { IfOk result (λ bytes. IsBuilt self entry (assembly_of bytes.items)) }
         ensures pe32 { IfOk result (λ bytes. is_wide bytes.items ≡ false) }

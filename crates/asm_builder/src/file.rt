@@ -11,8 +11,8 @@ ghost use Rattle.asm_builder.specs.File.{AreSmall, cli_fields, counts_bytes, fil
 
 use crate::content::{Content, Row, Rows, pad4, put_zeros};
 use crate::headers::{
-    CLI_HEADER_SIZE, FIRST_STREAM, SECTION_RVA, eight, four, put_coff, put_directories, put_number,
-    put_numbers, put_optional, put_root, put_section, two,
+    CLI_HEADER_SIZE, FIRST_STREAM, SECTION_AT, SECTION_RVA, eight, four, put_coff, put_directories,
+    put_number, put_numbers, put_optional, put_root, put_section, two,
 };
 use crate::layout::Sizes;
 use rtr_bytes::{NoMemory, Sequence};
@@ -150,6 +150,14 @@ fn padding512(len: usize) -> usize
     (512 - len % 512) % 512
 }
 
+/// How many bytes a file has whose section has so many: the headers, the section, and zeros up to a multiple of 512.
+fn file_len(size: usize) -> usize
+    requires { size < 2 ^ 32 }
+    ensures { result ≡ 512 + aligned 512 size }
+{
+    SECTION_AT as usize + size + padding512(size)
+}
+
 /// Appends zeros up to a multiple of 512.
 #[tactic(auto, unfolding(pe_image::specs::Raw::padded))]
 fn pad512(out: &mut Vec<u8>) -> Result<(), NoMemory>
@@ -236,7 +244,7 @@ impl Section {
             → self.now.metadata.items ≡ metadata_bytes content → bytes.items ≡ file_of content entry) }
     {
         let size = self.size();
-        let mut out = Vec::new(alloc);
+        let mut out = Vec::with_capacity(alloc, file_len(size as usize))?;
         put_coff(&mut out, entry)?;
         put_optional(&mut out, size)?;
         put_directories(&mut out)?;

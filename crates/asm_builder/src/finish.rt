@@ -1,4 +1,4 @@
-//! The end of a builder: the file of what was asked for.
+//! The end of a builder: the file of its rows.
 
 ghost use Rattle.std.specs.Prelude.{◌≡◌, ◌<◌, ◌≤◌, false, length, None, IfOk, IfErr};
 ghost use Rattle.rtr_bytes.specs.Checks.{first_fault};
@@ -44,7 +44,7 @@ impl Builder {
     pub fn finish(self, entry: u32) -> Result<Vec<u8>, BuildRefusal>
         requires entry { IsEntry self entry }
         ensures bytes { IfOk result (λ bytes. bytes.items ≡ file_of (content_of self) entry) }
-        // It passes every check of an assembly, and what stands in it was asked for.
+        // It passes every check of an assembly, and it has the rows of the builder and no others.
         ensures well_formed { IfOk result (λ bytes. first_fault (assembly_checks bytes.items) bytes.items ≡ None) }
         ensures built { IfOk result (λ bytes. IsBuilt self entry (assembly_of bytes.items)) }
         ensures pe32 { IfOk result (λ bytes. is_wide bytes.items ≡ false) }

@@ -31,7 +31,7 @@ pub record ReadsSlot (bytes : List ℕ) (list : Option (List SlotRef)) (at : ℕ
 
 abbrev pub ReadsNext : List ℕ → Option (List SlotRef) → ℕ → Option Next → Type 0
 ReadsNext bytes list at None = list ≡ None
-ReadsNext bytes list at (Some next.End) = list ≡ Some []
+ReadsNext bytes list at (Some (next.End after)) = list ≡ Some []
 ReadsNext bytes list at (Some (next.Slot slot after)) = ReadsSlot bytes list at slot after
 
 -- ---- slot by slot

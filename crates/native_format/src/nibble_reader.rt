@@ -64,7 +64,7 @@ fn next_slot(bytes: &[u8], start: usize, last: SlotRef) -> Option<Next>
     }
     let (distance, at) = number_at(bytes, at)?;
     if distance == 0 {
-        return Some(Next::End);
+        return Some(Next::End(at));
     }
     let section = last.section.checked_add(distance)?;
     let (slot, at) = number_at(bytes, at)?;
@@ -79,6 +79,8 @@ pub struct SlotReader<'a> {
     place: usize,
     /// The slot that was read last.
     last: Option<SlotRef>,
+    /// The number of the nibble after all that were read, those of the list's end too.
+    reached: usize,
 }
 
 impl<'a> Model for SlotReader<'a> {
@@ -99,6 +101,7 @@ impl<'a> SlotReader<'a> {
             bytes,
             place: 2 * at as usize,
             last: None,
+            reached: 2 * at as usize,
         }
     }
 
@@ -115,11 +118,22 @@ impl<'a> SlotReader<'a> {
             Some(Next::Slot(slot, after)) => {
                 self.last = Some(slot);
                 self.place = after;
+                self.reached = after;
                 Ok(Some(slot))
             }
-            Some(Next::End) => Ok(None),
+            Some(Next::End(after)) => {
+                self.reached = after;
+                Ok(None)
+            }
             None => Err(MalformedList),
         }
+    }
+
+    /// The number of the nibble after all that were read, counted from the first of the bytes: after a slot that after the
+    /// slot, and after the list's end that after the two zeros of the end, which may have leading zero groups. It says how
+    /// much was read, and no clause depends on it.
+    pub fn reached(&self) -> usize {
+        self.reached
     }
 }
 
@@ -167,8 +181,10 @@ mod tests {
             slot: 5,
         };
         assert_eq!(rt; list.next_slot(), Ok(Some(second)));
+        assert_eq!(rt; list.reached(), 5);
         assert_eq!(rt; list.next_slot(), Ok(None));
         assert_eq!(rt; list.next_slot(), Ok(None));
+        assert_eq!(rt; list.reached(), 7);
         let mut cut = SlotReader::new(&[0x21], 0);
         assert_eq!(rt; cut.next_slot(), Ok(Some(first)));
         assert_eq!(rt; cut.next_slot(), Err(MalformedList));

@@ -52,6 +52,6 @@ impl<T: Drop> From<AllocFailed<T>> for ListRefusal {
 pub(crate) enum Next {
     /// A slot, and the place of the nibble after it.
     Slot(SlotRef, usize),
-    /// Nothing: the list ends.
-    End,
+    /// Nothing: the list ends, with the place of the nibble after its end.
+    End(usize),
 }

@@ -57,7 +57,15 @@ fn a_class_with_a_method(rt: HostRuntime) -> Result<(), Fail> {
         file,
         3,
         "malformed: T check 38 at 716\n",
-    )
+    )?;
+    // MethodList of the type is at 770: after the last row, so that F is a method of no type.
+    let mut file = class_with_a_method(alloc)?;
+    if let Some(first) = file.get_mut(770) {
+        *first = 2;
+    }
+    let line = "method 06000001 F 00010808\n";
+    let text = CLASS_TEXT.strip_suffix(line).unwrap_or("");
+    expect(&rt, alloc, "dump T", file, 0, text)
 }
 
 /// The token of the one row of Assembly.

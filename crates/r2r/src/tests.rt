@@ -30,6 +30,14 @@ method 06000002 G
 method 06000003 ?H 200001
 ";
 
+/// The same where A.C has no method, so that no type's list has F.
+const WITHOUT_THE_FIRST_METHOD: &str = "assembly A
+type 02000001 A.C
+type 02000002 D
+method 06000002 G 
+method 06000003 ?H 200001
+";
+
 /// The same where D has no method.
 const ALL_OF_THE_FIRST_TYPE: &str = "assembly A
 type 02000001 A.C
@@ -243,10 +251,17 @@ fn well_formed_files(rt: HostRuntime) -> Result<(), Fail> {
     ] {
         expect_text(&rt, alloc, front, changes, text)?;
     }
-    // A MethodList after the last row: all methods are those of the type before.
-    let bytes = file_of(alloc, 1536, &[LEAST, ASSEMBLY, "@1180 04"])?;
-    let text = format!(in alloc; "{PLAIN_TEXT}{ALL_OF_THE_FIRST_TYPE}")?;
-    expect(&rt, alloc, "dump T", bytes, 0, text.as_str())
+    for (changes, lines) in [
+        // A MethodList after the last row: all methods are those of the type before.
+        ("@1180 04", ALL_OF_THE_FIRST_TYPE),
+        // The first MethodList is 2: row 1 is a method of no type.
+        ("@1166 02", WITHOUT_THE_FIRST_METHOD),
+    ] {
+        let bytes = file_of(alloc, 1536, &[LEAST, ASSEMBLY, changes])?;
+        let text = format!(in alloc; "{PLAIN_TEXT}{lines}")?;
+        expect(&rt, alloc, "dump T", bytes, 0, text.as_str())?;
+    }
+    Ok(())
 }
 
 /// Changes of the assembly, each with the check that fails then and its place.
@@ -323,13 +338,14 @@ const BROKEN_IMAGES: &str = "@676 29 = check 21 at 676
 @737 50 @1024 43 = check 22 at 736
 @746 01 @1024 43 = check 30 at 1024";
 
-/// Files without an assembly, cut: the length, the changes, and the check that fails then. The last but one is PE32, and its
-/// three section headers end after the cut; the last is whole.
+/// Files without an assembly: the length, the changes, and the check that fails then. The first four are cut; the fourth is PE32,
+/// and its three section headers end after the cut.
 const CUT: &str = "0 = check 1 at 0
 63 = check 1 at 63
 100 = check 6 at 84
 400 @60 80 @128 50450000 @134 03 @148 e0 @152 0b01 @244 10 = check 10 at 134
 1024 = check 30 at 584
+1024 @576 0011000010 = check 17 at 768
 1024 @576 0011000010 @768 525452000500 = check 30 at 584";
 
 /// Dumps a file with changes over it, and expects the line of its fault.

@@ -150,7 +150,8 @@ fn text_of(alloc: Global, name: &str, bytes: &[u8]) -> Result<Text, ReadRefusal>
 /// Prints the records of a file, given its name and its bytes, of which there are at most 2^31. The text is made whole
 /// before any of it is written. `Malformed` names the first of the checks 1 to 14, 16 to 22, 30 to 43, 50, 51 and, of an
 /// image of this compiler, 60 to 66 that fails, with its file offset; `SinkFailed` comes where the sink has a fault, and
-/// `NoMemory` where memory is refused, or the assembly's signatures are too long together ([`Assembly::read`]).
+/// `NoMemory` where memory is refused, or the assembly's signatures ([`Assembly::read`]) or the lists of the image's entries
+/// ([`read_rtr`](rtr_sections::read_rtr)) are too long together.
 pub fn dump_text<S: Sink>(
     alloc: Global,
     name: &str,

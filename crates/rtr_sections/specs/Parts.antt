@@ -138,7 +138,9 @@ header_bytes flags sections =
 abbrev pub import_bytes : ImportSection → List ℕ
 import_bytes i =
     little_bytes 4 i.rva
-    ++ (little_bytes 4 i.size ++ (little_bytes 2 i.flags ++ (i.kind ∷ i.entry_size ∷ (little_bytes 4 i.signatures ++ little_bytes 4 i.auxiliary))))
+    ++ (little_bytes 4 i.size
+    ++ (little_bytes 2 i.flags
+    ++ (i.kind ∷ i.entry_size ∷ (little_bytes 4 i.signatures ++ little_bytes 4 i.auxiliary))))
 
 -- RuntimeFunctions, whose unwind words are one after the other from an RVA on
 abbrev pub function_bytes : ℕ → List Function → List ℕ

@@ -192,24 +192,26 @@ fn is_linked_at(
     }
 }
 
-/// Each entry of an array is whole, and names a function and slots that exist. No entry is kept.
+/// Each entry of an array is whole, and names a function and slots that exist. No entry is kept. `NoMemory` where the lists
+/// of entries are too long together.
 fn check_links(
     lists: &mut SlotLists<'_>,
     functions: u32,
     file: &File<'_>,
     part: Span,
     array: &SparseArray<'_>,
-) -> Result<(), Fault>
+) -> Result<(), ReadRefusal>
     requires in_reach { part.start + part.len < 2 ^ 32 }
     requires within { length array.now.bytes ≤ part.len }
     requires lists { lists.old.bytes ≡ file.now }
-    ensures fault { IfErr result (λ f. fault_or 65 (first_bad (unlinked_index file.now part lists.old.imports functions array.now) 0 array.now.count) None ≡ Some f) }
+    ensures fault { IfErr result (λ e. RefusedBy (fault_or 65 (first_bad (unlinked_index file.now part lists.old.imports functions array.now) 0 array.now.count) None) e) }
     ensures ok { OnOk result (first_bad (unlinked_index file.now part lists.old.imports functions array.now) 0 array.now.count ≡ None) }
 {
     for index in 0..array.count() {
         if let Some(at) = content_at(array, index) {
             let linked = is_linked_at(lists, functions, file, part, at);
             ensure(linked, Check::EntryContent as u16, part.start + at)?;
+            lists.check_room()?;
         }
     }
     Ok(())
@@ -235,7 +237,9 @@ fn read_array<'a>(file: &'a File<'_>, part: Span, rows: u32) -> Result<SparseArr
 
 /// The entries of a part, for an assembly of so many MethodDef rows: its array is there, none of the array's paths is
 /// cut, and each entry is whole and names one of so many functions and slots of the import records. The answer for a
-/// list is remembered by its place, since entries may share lists; nothing else is kept.
+/// list is remembered by its place, since entries may share lists; nothing else is kept. `NoMemory` comes also where the
+/// lists of the entries have together more than 32 times the bytes of the file, a list that entries share as often as they
+/// name it.
 #[tactic(auto, unfolding(crate::specs::Entries::bad_array, crate::specs::Entries::first_cut, crate::specs::EntryHeads::first_unlinked_in))]
 pub(crate) fn check_entries(
     alloc: Global,

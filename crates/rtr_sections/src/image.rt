@@ -136,7 +136,9 @@ fn read_image(alloc: Global, file: &File<'_>, method_rows: u32) -> Result<Image,
 /// The ReadyToRun part of a file with a native header, whose PE headers are `pe` and whose assembly has so many
 /// MethodDef rows. `Malformed` names the first of the checks 16 to 22 and, of an image that this compiler wrote,
 /// 60 to 66 that fails, with its first place. While it checks it takes memory in proportion to the file, and keeps no
-/// slot and no entry; those of an image that passes are read after all checks.
+/// slot and no entry; those of an image that passes are read after all checks. `NoMemory` comes where memory is refused, and
+/// also where the lists of slots of all entries together, a list as often as entries name it, have more than 32 times the bytes
+/// of the file; the file may then fail a check that comes after.
 pub fn read_rtr(
     alloc: Global,
     pe: &Pe,

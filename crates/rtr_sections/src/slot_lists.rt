@@ -1,6 +1,6 @@
 //! Lists of slots by their places in the file, each asked once.
 
-ghost use Rattle.std.specs.Prelude.{◌≡◌, ◌≤◌, ◌^◌, ℕ, length, true, false, get_or, IfOk};
+ghost use Rattle.std.specs.Prelude.{◌≡◌, ◌≤◌, ◌<◌, ◌^◌, ℕ, length, true, get_or, is_some, IfOk};
 ghost use Rattle.std.specs.Option.{option_map_or};
 ghost use Rattle.std.specs.List.{list_all};
 ghost use Rattle.native_format.specs.Nibbles.{list_at};
@@ -23,34 +23,47 @@ fn exists_in(imports: &[ImportSection], slot: SlotRef) -> bool
     }
 }
 
-/// Whether a whole list of slots of these import records begins at a file offset.
+/// How many bytes there are from a file offset to a nibble, where the half of a byte counts as a whole one. A number that has
+/// more than 32 bits is the largest of 32 bits.
+fn len_between(at: u32, nibble: usize) -> u32 {
+    let nibbles = (nibble as u64).saturating_sub(2 * u64::from(at));
+    u32::try_from(nibbles.div_ceil(2)).unwrap_or(u32::MAX)
+}
+
+/// How many bytes the list has that begins at a file offset, where it is whole and its slots are of these import records. `None`
+/// where there is no such list.
 #[tactic(auto, unfolding(crate::specs::EntryHeads::links_at))]
-fn links_at(bytes: &[u8], imports: &[ImportSection], at: u32) -> bool
+fn linked_len(bytes: &[u8], imports: &[ImportSection], at: u32) -> Option<u32>
     requires { length bytes.now ≤ 2 ^ 31 }
-    ensures { result ≡ links_at bytes.now imports.now at }
+    ensures { is_some result ≡ links_at bytes.now imports.now at }
 {
     let mut slots = SlotReader::new(bytes, at);
     'slots: loop {
         match slots.next_slot() {
             Ok(Some(slot)) => {
                 if !exists_in(imports, slot) {
-                    return false;
+                    return None;
                 }
             }
-            Ok(None) => return true,
-            Err(_) => return false,
+            Ok(None) => return Some(len_between(at, slots.reached())),
+            Err(_) => return None,
         }
     }
 }
 
-/// The lists of a file, and which of them were found whole with slots that exist. Contracts see the file and the import
-/// records.
+/// So many bytes of lists are read for each byte of the file.
+const BYTES_OF_LISTS: u64 = 32;
+
+/// The lists of a file, which of them were found whole with slots that exist, and how much was asked. Contracts see the file
+/// and the import records.
 #[derive(Drop)]
 pub(crate) struct SlotLists<'a> {
     bytes: &'a [u8],
     imports: &'a [ImportSection],
-    /// By the file offset of a list, whether it passed. A list that fails ends the check.
-    passed: Vec<bool>,
+    /// By the file offset of a list, how many bytes it has once it passed, and 0 before. A list that fails ends the check.
+    passed: Vec<u32>,
+    /// How many bytes the lists have that were asked and passed, each as often as it was asked.
+    asked: u64,
 }
 
 impl<'a> Model for SlotLists<'a> {
@@ -58,11 +71,11 @@ impl<'a> Model for SlotLists<'a> {
 
     ghost view = { λ s. record { bytes = s.bytes.now; imports = s.imports.now } };
 
-    ghost invariant = { λ s. (length s.bytes.now ≤ 2 ^ 31) × ((at : ℕ) → get_or s.passed.items at false ≡ true → links_at s.bytes.now s.imports.now at ≡ true) };
+    ghost invariant = { λ s. (length s.bytes.now ≤ 2 ^ 31) × ((at : ℕ) → 0 < get_or s.passed.items at 0 → links_at s.bytes.now s.imports.now at ≡ true) };
 }
 
 impl<'a> SlotLists<'a> {
-    /// The lists of a file, of which none was asked yet. It takes a byte for each of the file's.
+    /// The lists of a file, of which none was asked yet. It takes four bytes for each of the file's.
     pub(crate) fn new(
         alloc: Global,
         file: &'a File<'_>,
@@ -71,11 +84,12 @@ impl<'a> SlotLists<'a> {
         ensures { IfOk result (λ lists. lists ≡ record { bytes = file.now; imports = imports.now }) }
     {
         let bytes = file.bytes();
-        let passed = vec![in alloc; false; bytes.len()]?;
+        let passed = vec![in alloc; 0u32; bytes.len()]?;
         Ok(SlotLists {
             bytes,
             imports,
             passed,
+            asked: 0,
         })
     }
 
@@ -86,15 +100,28 @@ impl<'a> SlotLists<'a> {
         ensures lists { self.new ≡ self.old }
     {
         let place = at as usize;
-        if place < self.passed.len() && self.passed[place] {
+        if place < self.passed.len() && self.passed[place] > 0 {
+            self.asked = self.asked.saturating_add(u64::from(self.passed[place]));
             return true;
         }
-        if !links_at(self.bytes, self.imports, at) {
+        let Some(len) = linked_len(self.bytes, self.imports, at) else {
             return false;
-        }
+        };
+        self.asked = self.asked.saturating_add(u64::from(len));
         if place < self.passed.len() {
-            self.passed[place] = true;
+            self.passed[place] = len;
         }
         true
+    }
+
+    /// `NoMemory` where the lists that were asked and passed have more than 32 times the bytes of the file, each as often as it
+    /// was asked. Many entries may name one long list, and lists may overlap: without a limit a small file could ask for any
+    /// amount of time and memory. In the images of this compiler the lists are shorter than the file.
+    pub(crate) fn check_room(&self) -> Result<(), NoMemory> {
+        let room = (self.bytes.len() as u64).saturating_mul(BYTES_OF_LISTS);
+        if self.asked > room {
+            return Err(NoMemory);
+        }
+        Ok(())
     }
 }

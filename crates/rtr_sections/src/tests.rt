@@ -40,6 +40,11 @@ const SHARED: &str = "@337 04 @345 04 @696 b0110000 0f @832 88*100 0000 @936 88*
 const MANY: &str = "@337 06 @345 06 @672 00120000 dc
     @1024 0010000000060000000000080013000000000000*11 @1280 0c110000*192";
 
+/// The image with 512 bytes more and 496 entries, which all share a list of 102 bytes: together 50,592 bytes, which are more than
+/// 32 times 1,536.
+const LONG: &str =
+    "@337 04 @345 04 @696 b0110000 28 @832 88*100 0000 @944 01 1f 1f*31 0e*4 06 5902";
+
 /// A check, the place where it fails, how many rows there are, and how the image of so many bytes is changed: the array
 /// counts more elements than there are rows; a word of an array that records share names no fixup; records share cells; the
 /// last of four entries has a list of a slot that doesn't exist, and the three before share one that is good; all four
@@ -171,6 +176,18 @@ fn reads_entries(rt: HostRuntime) -> Result<(), Fail> {
     assert!(rt; are_entries(&absent, &[]));
     let shared = image_of(rt.alloc(), 1536, &[OWN, SHARED])?;
     assert!(rt; are_entries(&shared, &[(1, 0, 1), (2, 0, 1), (3, 0, 1), (4, 0, 1)]));
+    Ok(())
+}
+
+/// Of 16 entries fewer the lists have 48,960 bytes.
+#[test]
+fn lists_that_are_too_long_together(rt: HostRuntime) -> Result<(), Fail> {
+    let long = file_of(rt.alloc(), 1536, &[OWN, LONG])?;
+    let refused = read(rt.alloc(), &long, 496).ok_or("it has a native header")?;
+    assert!(rt; matches!(refused, Err(ReadRefusal::NoMemory)));
+    let shorter = file_of(rt.alloc(), 1536, &[OWN, LONG, "@945 1e"])?;
+    let image = read(rt.alloc(), &shorter, 496).ok_or("it has a native header")?;
+    assert_eq!(rt; image.ok().ok_or("it is well formed")?.entries.len(), 480);
     Ok(())
 }
 

@@ -1,6 +1,7 @@
 -- Lists that ascend: the type whose list a row is in is the first that lists it.
 use Rattle.std.proofs.Common.{◌≡◌, ℕ, zero, suc, ◌+◌, ◌-◌, ◌<◌, ◌≤◌, ◌==◌, Bool, true, false, List, [], find, map}
-use Rattle.std.proofs.Common.{slice_get, cond, if◌then◌else◌, Option, Some, None, refl, sym, ap, ◌∙◌, subst, arith, lt-ltb, eqb-true, eq-eqb, ne_eqb, eq-or-lt_of_le, nat_le, leb-true, leb-false, inl, inr}
+use Rattle.std.proofs.Common.{slice_get, cond, if◌then◌else◌, Option, Some, None, refl, sym, ap, ◌∙◌, subst, arith}
+use Rattle.std.proofs.Common.{lt-ltb, eqb-true, eq-eqb, ne_eqb, eq-or-lt_of_le, nat_le, leb-true, leb-false, inl, inr}
 use Rattle.std.specs.List.{range_with_len}
 use Rattle.std.proofs.lemmas.Bool.{le-ltb}
 use Rattle.metadata.specs.declared.schema.Table.TheVariants as tables
@@ -26,7 +27,8 @@ find_first : (p : ℕ → Bool) (s n k : ℕ) → s ≤ k → k < s + n → ((j 
     → find p (range_with_len s n) ≡ Some k
 find_first p s zero k l m h e = absurd (omega (arith, l, m))
 find_first p s (suc n) k l m h e =
-    by_place (λ from. find_first p (s + 1) n k from (omega (arith, m)) (λ j j_from below. h j (omega (arith, j_from)) below) e) (s == k) refl
+    by_place (λ from. find_first p (s + 1) n k from (omega (arith, m))
+    (λ j j_from below. h j (omega (arith, j_from)) below) e) (s == k) refl
   where
     by_place : (s + 1 ≤ k → find p (range_with_len (s + 1) n) ≡ Some k) → (b : Bool) → (s == k) ≡ b
         → find p (range_with_len s (suc n)) ≡ Some k

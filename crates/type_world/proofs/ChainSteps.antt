@@ -25,17 +25,20 @@ unfolding base_of
 base_there files asm row extends file there e =
     ap (base_of_class (world_of files) asm) (e ∙ ap (λ a. column a tables.TypeDef row 3) (sym (at_some files asm file there)))
 
-pub base_nowhere : (files : List (List ℕ)) (asm row : ℕ) → slice_get files asm ≡ None → NoBase ≡ base_of (world_of files) (types.Class asm row)
+pub base_nowhere : (files : List (List ℕ)) (asm row : ℕ) → slice_get files asm ≡ None
+    → NoBase ≡ base_of (world_of files) (types.Class asm row)
 unfolding base_of column
 base_nowhere files asm zero e = refl
-base_nowhere files asm (suc row) e = sym (ap (λ a. base_of_class (world_of files) asm (column a tables.TypeDef (suc row) 3)) (at_none files asm e))
+base_nowhere files asm (suc row) e =
+    sym (ap (λ a. base_of_class (world_of files) asm (column a tables.TypeDef (suc row) 3)) (at_none files asm e))
 
 pub base_not_null : (files : List (List ℕ)) (asm extends : ℕ) (file : List ℕ) (token : Option ℕ) → slice_get files asm ≡ Some file
     → (extends / 4 ≡ 0 → ⊥) → token ≡ coded_token (assembly_of file) kinds.TypeDefOrRef extends
     → base_by_token (world_of files) asm token ≡ base_of_class (world_of files) asm extends
 base_not_null files asm extends file token there some e =
     ap (base_by_token (world_of files) asm) (e ∙ ap (λ a. coded_token a kinds.TypeDefOrRef extends) (sym (at_some files asm file there)))
-    ∙ sym (ap (λ b. cond b NoBase (base_by_token (world_of files) asm (coded_token (assembly_in (world_of files) asm) kinds.TypeDefOrRef extends)))
+    ∙ sym (ap (λ b. cond b NoBase
+    (base_by_token (world_of files) asm (coded_token (assembly_in (world_of files) asm) kinds.TypeDefOrRef extends)))
     (ne_eqb (extends / 4) 0 some))
 
 -- ---- a step up a chain

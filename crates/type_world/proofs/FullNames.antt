@@ -19,7 +19,8 @@ same_front : (ns xs ys : List ℕ) → bytes_eq (ns ++ xs) (ns ++ ys) ≡ bytes_
 same_front [] xs ys = refl
 same_front (n ∷ ns) xs ys = ap (λ b. b && bytes_eq (ns ++ xs) (ns ++ ys)) (eq-eqb n n refl) ∙ same_front ns xs ys
 
-pub dotted_rest : (text ns name rest : List ℕ) (b : Bool) → ns ≢ [] → text ≡ ns ++ rest → b ≡ bytes_eq rest (codes "." ++ name) → b ≡ bytes_eq text (dotted ns name)
+pub dotted_rest : (text ns name rest : List ℕ) (b : Bool) → ns ≢ [] → text ≡ ns ++ rest → b ≡ bytes_eq rest (codes "." ++ name)
+    → b ≡ bytes_eq text (dotted ns name)
 dotted_rest text [] name rest b some e h = absurd (some refl)
 dotted_rest text (n ∷ ns) name rest b some e h =
     h ∙ sym (same_front (n ∷ ns) rest (codes "." ++ name)) ∙ ap (λ t. bytes_eq t ((n ∷ ns) ++ (codes "." ++ name))) (sym e)

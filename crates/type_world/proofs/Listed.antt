@@ -75,7 +75,8 @@ undeclared_first a class =
     let l : 0 < max 1 (column a tables.TypeDef class 5) = omega arith in
     below (list_end a tables.MethodDef class 5 - list_start a class 5) (list_start a class 5) 0 l
 
-undeclared_past : (a : Assembly) (class i : ℕ) → ListsAscend a → row_count a tables.MethodDef ≤ i → declares (methods_of a class) (suc i) ≡ false
+undeclared_past : (a : Assembly) (class i : ℕ) → ListsAscend a → row_count a tables.MethodDef ≤ i
+    → declares (methods_of a class) (suc i) ≡ false
 unfolding methods_of
 undeclared_past a class i lists past =
     let ends = lists.methods class in

@@ -53,7 +53,8 @@ pub number_at : (a : Assembly) (i : ℕ) → i < row_count a tables.TypeDef
     → get_or (type_numbers a) i 0 ≡ name_number (text_at a tables.TypeDef (i + 1) 1)
 unfolding type_numbers
 number_at a i l =
-    get_or-map-range_with_len (λ row. name_number (text_at a tables.TypeDef row 1)) 1 (row_count a tables.TypeDef) i (i + 1) 0 l (omega arith)
+    get_or-map-range_with_len (λ row. name_number (text_at a tables.TypeDef row 1)) 1 (row_count a tables.TypeDef) i
+    (i + 1) 0 l (omega arith)
 
 pub own_text : (a : Assembly) (row at : ℕ) (o : Option (List ℕ)) → at ≡ column a tables.TypeDef row 1 → o ≡ string_at a at
     → option_map_or (λ text. text) o [] ≡ text_at a tables.TypeDef row 1

@@ -112,7 +112,8 @@ in_scope world asm namespace name enclosing Unresolved = None
 
 abbrev pub by_scope : World → ℕ → (ℕ → Option TypeId) → ℕ → Option TypeId
 by_scope world asm enclosing row =
-    in_scope world asm (text_at (assembly_in world asm) tables.TypeRef row 2) (text_at (assembly_in world asm) tables.TypeRef row 1) enclosing
+    in_scope world asm (text_at (assembly_in world asm) tables.TypeRef row 2)
+    (text_at (assembly_in world asm) tables.TypeRef row 1) enclosing
     (scope_of (assembly_in world asm) row)
 
 -- one that needs at most so many scopes: a row that comes back to itself by its scopes needs more than there are rows

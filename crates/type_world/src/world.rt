@@ -4,6 +4,7 @@ ghost use Rattle.std.specs.Prelude.{◌≡◌, ◌≤◌, ◌<◌, ◌^◌, leng
 ghost use Rattle.type_world.specs.Loading.{IsRefused, world_of};
 ghost use Rattle.type_world.specs.World.{IsWorld};
 ghost use Rattle.type_world.specs.Entries.{can_start, entry_named, entry_point};
+ghost use Rattle.type_world.specs.Members.{signature_of};
 ghost use Rattle.type_world.specs.Numbers.{method_number, method_numbered, type_number, type_numbered};
 ghost use Rattle.type_world.specs.Profile.{is_abstract, method_flag};
 
@@ -13,7 +14,7 @@ use crate::methods::Methods;
 use crate::profile::Profile;
 use crate::refusal::WorldRefusal;
 use crate::types::Types;
-use cli_assembly::{Assembly, METHOD_STATIC};
+use cli_assembly::{Assembly, METHOD_STATIC, MethodSig};
 use std::alloc::Global;
 use std::marker::Model;
 
@@ -151,6 +152,14 @@ impl World {
         ensures { result ≡ entry_named (world_of self.now) class.now name.now }
     {
         self.assemblies().entry_named(class, name)
+    }
+
+    /// The signature of a row of MethodDef. `None` exactly where there is no such row, or it has no signature of the form.
+    pub fn method_sig(&self, method: MethodId) -> Option<&MethodSig>
+        requires { method.asm < BUILT_IN }
+        ensures { option_copied result ≡ signature_of (world_of self.now) method }
+    {
+        self.assemblies().signature_of(method)
     }
 
     /// Whether a run can begin at a row of MethodDef with some numbers: it is static, it has no `this`, its result is void or an integer, and

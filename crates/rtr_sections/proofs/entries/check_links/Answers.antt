@@ -5,7 +5,7 @@ use Rattle.rtr_sections.specs.EntryHeads.{Linking, is_linked_at, unlinked_index}
 use Rattle.rtr_sections.proofs.Numbered.{first_bad-step}
 use Rattle.rtr_sections.proofs.EntriesRead.{place_some, place_none}
 use Rattle.rtr_sections.proofs.entries.check_links.Goals as goal
-use Rattle.rtr_sections.proofs.entries.check_links.Goals.{in-Some+in_ok-ensure, in_default}
+use Rattle.rtr_sections.proofs.entries.check_links.Goals.{in-Some+in_ok-ensure+in_ok-check_room, in_default}
 
 pub loop-index-preserved : goal.loop-index-preserved
 loop-index-preserved c =
@@ -19,7 +19,7 @@ loop-index-preserved c =
     let bad = unlinked_index bytes part imports functions a in
     let below : i < a.count = omega arith in
     elim c.match-content_at.branch [
-      | in-Some+in_ok-ensure w ↦
+      | in-Some+in_ok-ensure+in_ok-check_room w ↦
           let at = w.in-Some.at in
           let content : content_place (element_of a i) ≡ Some at = sym c.content_at.ensures.place ∙ w.in-Some.is in
           let linked : is_linked_at bytes part imports functions at ≡ true =

@@ -11,7 +11,9 @@ invariant_of-self-2 c =
     subst (λ (a : Asked). IsSound (with_attribute a c.args.parent c.args.constructor c.args.value.now)) (sym c.self.view_is)
     (c.can_attribute.ensures.0 c.if-not-can_attribute.false) in
     let more =
-    subst (λ (n : ℕ). c.self.inside.blobs + n < 2 ^ 24 → c.grown-self-inside.result ≡ c.self.inside.blobs + n) c.bytes_room.ensures c.grown-self-inside.ensures in
+    subst (λ (n : ℕ). c.self.inside.blobs + n < 2 ^ 24 → c.grown-self-inside.result ≡ c.self.inside.blobs + n)
+    c.bytes_room.ensures c.grown-self-inside.ensures in
     subst (λ (a : Asked). IsCounted a c.self.inside.strings c.grown-self-inside.result c.self.inside.code) (sym c.in_ok-token.ensures.added)
-    (attribute_counted c.self.inside.builder c.args.parent c.args.constructor c.args.value.now c.self.inside.strings c.self.inside.blobs c.self.inside.code c.grown-self-inside.result
+    (attribute_counted c.self.inside.builder c.args.parent c.args.constructor c.args.value.now c.self.inside.strings
+    c.self.inside.blobs c.self.inside.code c.grown-self-inside.result
     c.self.invariant sound more)

@@ -13,7 +13,9 @@ invariant_of-self-2 c =
     let room : c.text_room.result + c.text_room-2.result ≡ text_room c.args.name.now + text_room c.args.space.now =
     ap (λ (n : ℕ). n + c.text_room-2.result) c.text_room.ensures ∙ ap (λ (n : ℕ). text_room c.args.name.now + n) c.text_room-2.ensures in
     let plus =
-    subst (λ (n : ℕ). c.self.inside.strings + n < 2 ^ 24 → c.grown-self-inside.result ≡ c.self.inside.strings + n) room c.grown-self-inside.ensures in
+    subst (λ (n : ℕ). c.self.inside.strings + n < 2 ^ 24 → c.grown-self-inside.result ≡ c.self.inside.strings + n) room
+    c.grown-self-inside.ensures in
     subst (λ (a : Asked). IsCounted a c.grown-self-inside.result c.self.inside.blobs c.self.inside.code) (sym c.in_ok-token.ensures.added)
-    (type_ref_counted c.self.inside.builder c.args.parent c.args.space.now c.args.name.now c.self.inside.strings c.self.inside.blobs c.self.inside.code c.grown-self-inside.result
+    (type_ref_counted c.self.inside.builder c.args.parent c.args.space.now c.args.name.now c.self.inside.strings
+    c.self.inside.blobs c.self.inside.code c.grown-self-inside.result
     c.self.invariant sound plus)

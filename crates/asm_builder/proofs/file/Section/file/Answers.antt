@@ -21,7 +21,7 @@ returns c = λ content bodies metadata.
     let few : c.len.result ≡ length content.bodies = c.len.ensures ∙ b in
     let many : c.len-2.result ≡ length (metadata_bytes content) = omega (arith, c.len-2.ensures, c.args.self.now.metadata.ok, m) in
     let first : coff ≡ fields_bytes (coff_fields entry) = c.in_ok-put_coff.ensures
-    ∙ ap (λ (t : List ℕ). t ++ fields_bytes (coff_fields entry)) c.new-out.ensures.items in
+    ∙ ap (λ (t : List ℕ). t ++ fields_bytes (coff_fields entry)) c.in_ok-out.ensures.items in
     let put : code ≡ cli ++ content.bodies = c.in_ok-extend_from_slice.ensures.items
     ∙ ap (λ (t : List ℕ). cli ++ t) (c.as_slice.ensures ∙ bodies) in
     let last : all ≡ code ++ metadata_bytes content = c.in_ok-extend_from_slice-2.ensures.items

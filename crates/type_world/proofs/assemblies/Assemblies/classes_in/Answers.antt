@@ -16,7 +16,8 @@ loop-index-preserved c =
     let begins = c.lister_from-class.ensures.begins in
     let class =
     class_is c.args.self.now c.args.asm c.lister_from-class.result (c.loop-index.index + 1) c.args.assembly.now c.class_of.result c.requires
-    (c.lists_ascend.ensures c.args.assembly.now c.bytes.ensures.well_formed) begins c.lister_from-class.ensures.ends c.lister_from-class.ensures.few
+    (c.lists_ascend.ensures c.args.assembly.now c.bytes.ensures.well_formed) begins c.lister_from-class.ensures.ends
+    c.lister_from-class.ensures.few
     c.class_of.ensures in (
       c.in_ok-push.ensures.items
           ∙ ap (λ xs. xs ++ c.class_of.result ∷ []) c.loop-index.invariant.0

@@ -13,4 +13,5 @@ loop-before-preserved c =
     let assembly = assembly_in (world_of c.args.self.now) c.args.asm in
     c.loop-before.invariant
     ∙ row_not_any (λ nesting. column assembly tables.NestedClass nesting 0 == c.args.row) c.loop-before.before
-    (row_count assembly tables.NestedClass) (omega (arith, rows, below)) (not_equal _ c.args.row c.column_at.result c.column_at.ensures c.if-column_at-row.false)
+    (row_count assembly tables.NestedClass) (omega (arith, rows, below))
+    (not_equal _ c.args.row c.column_at.result c.column_at.ensures c.if-column_at-row.false)

@@ -11,5 +11,6 @@ use Rattle.type_world.proofs.assemblies.Assemblies.type_named.Given as goal
 abbrev pub invariant-loop-before : goal.invariant-loop-before
 invariant-loop-before l =
     type_named (assembly_in (world_of l.self) l.asm) l.namespace l.name
-    ≡ find (λ row. is_named (assembly_in (world_of l.self) l.asm) row l.namespace l.name && not (is_nested (assembly_in (world_of l.self) l.asm) row))
+    ≡ find (λ row. is_named (assembly_in (world_of l.self) l.asm) row l.namespace l.name
+    && not (is_nested (assembly_in (world_of l.self) l.asm) row))
     (range_with_len (l.before + 1) (row_count (assembly_in (world_of l.self) l.asm) tables.TypeDef - l.before))

@@ -2,7 +2,7 @@ use Rattle.std.proofs.Common.{◌≡◌, false}
 use Rattle.std.specs.Option.{option_map_or}
 use Rattle.std.specs.List.{list_all}
 use Rattle.rtr_sections.specs.EntryHeads.{exists_in, links_at}
-use Rattle.rtr_sections.proofs.slot_lists.links_at.Given as goal
+use Rattle.rtr_sections.proofs.slot_lists.linked_len.Given as goal
 
 -- the slots that are left decide
 abbrev pub invariant-slots : goal.invariant-slots
