@@ -3,12 +3,13 @@ use Rattle.std.proofs.Common.{◌≡◌, ℕ, ◌≤◌, List, [], ◌∷◌, �
 use Rattle.rtr_bytes.specs.declared.fault.Fault.{Fault}
 use Rattle.rtr_outside.specs.Files.{Contents}
 use Rattle.r2rdump.specs.Dump.{file_fault}
-use Rattle.r2r.specs.Command.{Command, Dump, inputs, out_file}
+use Rattle.r2r.specs.Command.{Command, Dump, Run, inputs, out_file}
 use Rattle.r2r.specs.Reading.{Reading, OverMost, Failed, OverLimit, AllRead, ComesTo, IsReached}
 use Rattle.r2r.specs.Refusals.{Refusal, TooMany, ReadFailed, TooLong, Malformed, DuplicateName, NotIlOnly, NoEntry, BadArguments, status_of}
 use Rattle.r2r.specs.Ending.{Reply, Refuses, Answers, FailsToWrite, Decides, IsAnswer, IsText, conditions, malformed}
 use Rattle.r2r.specs.Ending.{malformed_by, refusals}
 use Rattle.r2r.specs.Statuses.{HasText, IsRefused, IsUnrefused}
+use Rattle.r2r.proofs.RunsDecided.{no_failed_run, run_text_status}
 
 -- the first of these refusals is the reply
 pub record FirstOf (all : List Refusal) (reply : Reply) : Type 0 where
@@ -72,6 +73,7 @@ pub text_status : (command : Command) (files : List (List ℕ)) (status : ℕ) (
 text_status (Dump name) [] status text h = absurd h
 text_status (Dump name) (bytes ∷ []) status text h = inl h.0
 text_status (Dump name) (bytes ∷ more ∷ files) status text h = absurd h
+text_status (Run run) files status text h = run_text_status run files status text h
 
 -- what a refusal of this status is
 pub read_failed_of : (refusal : Refusal) → status_of refusal ≡ 2 → (name : List ℕ) × (refusal ≡ ReadFailed name)
@@ -100,8 +102,9 @@ malformed_of (BadArguments worker) e = absurd (omega arith)
 no_condition : (command : Command) (files : List (List ℕ)) (name : List ℕ) (later : List Refusal)
     → conditions command files ≡ ReadFailed name ∷ later → ⊥
 no_condition (Dump file) files name later e = cc
+no_condition (Run run) files name later e = no_failed_run run files name later e
 
-no_failed_read : (command : Command) (files : List (List ℕ)) (name : List ℕ) (later : List Refusal) (names bytes : List (List ℕ))
+pub no_failed_read : (command : Command) (files : List (List ℕ)) (name : List ℕ) (later : List Refusal) (names bytes : List (List ℕ))
     → malformed names bytes ++ conditions command files ≡ ReadFailed name ∷ later → ⊥
 no_failed_read command files name later [] bytes e = no_condition command files name later e
 no_failed_read command files name later (n ∷ names) [] e = no_condition command files name later e

@@ -64,7 +64,7 @@ module _ (command : Command) (before after : Outside) (status : ℕ) where
   PrintsReply reply = PrintsIfMemory written_of faults_of reply before after status
 
   -- a reading and its reply, where no call failed
-  quiet_ends : (reading : Reading) (reply : Reply) → ComesTo before.contents (inputs command) reading → IsReply command reading reply
+  pub quiet_ends : (reading : Reading) (reply : Reply) → ComesTo before.contents (inputs command) reading → IsReply command reading reply
       → after.failed ≡ before.failed → after.failed ≡ before.failed ++ calls_of reply → PrintsReply reply → Ends command before after status
   quiet_ends reading reply comes is same calls (inl printed) = Replies reading reply comes is calls printed
   quiet_ends reading reply comes is same calls (inr (e, nothing)) = FindsNoMemory e nothing (inl same)

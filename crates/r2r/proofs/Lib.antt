@@ -1,3 +1,4 @@
+pub mod RunsDecided
 pub mod Exposed
 pub mod Decided
 pub mod StatusesOf
@@ -13,3 +14,17 @@ pub mod EachOf
 pub mod Singles
 pub mod RunAt
 pub mod WordRows
+pub mod RunRows
+pub mod Few
+pub mod WereRead
+pub mod Firsts
+pub mod Pieces
+pub mod EachFile
+pub mod NotIlOnly
+pub mod Lines
+pub mod Rows
+pub mod Starts
+pub mod States
+pub mod RunPrinted
+pub mod Prepared
+pub mod RunEnds

@@ -1,6 +1,7 @@
 -- What the top call promises, from how a command ends.
 use Rattle.std.proofs.Common.{◌≡◌, ℕ, ◌≤◌, List, ◌∷◌, [], Option, Some, None, option_and_then, sym, subst, ◌∙◌}
-use Rattle.r2r.specs.Command.{Command, Dump, command_of, out_file}
+use Rattle.r2r.specs.Command.{Command, Dump, Run, command_of, out_file}
+use Rattle.r2r.specs.RunWords.{Run as Asked}
 use Rattle.r2r.specs.Outside.{Outside, Takes, ChangesOnly}
 use Rattle.r2r.specs.Refusals.{usage_line}
 use Rattle.r2r.specs.Ending.{Ends}
@@ -43,6 +44,19 @@ module _ (words : List (List ℕ)) (before after : Outside) (status : ℕ) (cont
         never_falls = never_falls;
       }
 
+  pub run_runs : (run : Asked) → command_of words ≡ Some (Run run) → Ends (Run run) before after status → Runs words before after status
+  run_runs run is ends =
+      let statuses : Statuses (Run run) before after status = statuses_of_end (Run run) before after status ends in
+      record {
+        usage = (λ h. absurd (not_one statuses.known h), λ h. absurd (let both : None ≡ Some (Run run) = sym h ∙ is in cc));
+        usage_line = λ h. absurd (not_one statuses.known h);
+        ends = rw is ends;
+        statuses = rw is statuses;
+        dump = rw is tt;
+        contents = rw is contents;
+        never_falls = never_falls;
+      }
+
 -- no command writes a file today, so no file changes
 pub nothing_changes : (words : List (List ℕ)) (before after : Outside) (status : ℕ) → Runs words before after status
     → after.contents ≡ before.contents
@@ -52,3 +66,4 @@ nothing_changes words before after status runs = by_command (command_of words) r
         → after.contents ≡ before.contents
     by_command None h = h
     by_command (Some (Dump name)) h = h
+    by_command (Some (Run run)) h = h

@@ -4,7 +4,7 @@ use Rattle.rtr_bytes.specs.declared.fault.Fault.{Fault}
 use Rattle.rtr_outside.specs.Files.{Contents, Read, IsKnownLonger, file_limit}
 use Rattle.rtr_outside.specs.Sink.{Rose}
 use Rattle.r2rdump.specs.Dump.{dump_text, file_fault}
-use Rattle.r2r.specs.Command.{Command, Dump}
+use Rattle.r2r.specs.Command.{Command, Dump, Run}
 use Rattle.r2r.specs.Outside.{Outside, Takes, TakesWhole, TakesFront, TakesNothing}
 use Rattle.r2r.specs.Reading.{IsRead}
 use Rattle.r2r.specs.Refusals.{ReadFailed, TooLong, Malformed, line_of}
@@ -15,6 +15,7 @@ use Rattle.r2r.specs.Statuses.{IsOneOf}
 abbrev pub IfDump : Option Command → (List ℕ → Type 0) → Type 0
 IfDump None P = Unit {0}
 IfDump (Some (Dump name)) P = P name
+IfDump (Some (Run run)) P = Unit {0}
 
 -- what a dump of a file's bytes comes to, by their first fault
 abbrev pub dump_reply : List ℕ → List ℕ → Option Fault → Reply

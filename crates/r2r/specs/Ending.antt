@@ -4,10 +4,12 @@ use Rattle.rtr_bytes.specs.declared.fault.Fault.{Fault}
 use Rattle.rtr_outside.specs.Files.{Call, Read, Write}
 use Rattle.rtr_outside.specs.Sink.{Appends}
 use Rattle.r2rdump.specs.Dump.{dump_text, file_fault, IsUntouched}
-use Rattle.r2r.specs.Command.{Command, Dump, inputs, out_file}
+use Rattle.r2r.specs.Command.{Command, Dump, Run, inputs, out_file}
 use Rattle.r2r.specs.Outside.{Outside, written_of, faults_of, CutsShort, PrintsText, TakesNothing}
 use Rattle.r2r.specs.Reading.{Reading, OverMost, Failed, OverLimit, AllRead, ComesTo}
-use Rattle.r2r.specs.Refusals.{Refusal, TooMany, ReadFailed, TooLong, Malformed, status_of, line_of, failed_calls, write_failed_line}
+use Rattle.r2r.specs.RunRefusals.{run_refusals}
+use Rattle.r2r.specs.Running.{IsRunText}
+use Rattle.r2r.specs.Refusals.{Refusal, of_each, TooMany, ReadFailed, TooLong, Malformed, status_of, line_of, failed_calls, write_failed_line}
 
 -- ---- what refuses a command
 
@@ -18,12 +20,12 @@ malformed_by name (Some fault) = Malformed name fault ∷ []
 
 -- of each file in its order
 abbrev pub malformed : List (List ℕ) → List (List ℕ) → List Refusal
-malformed (name ∷ names) (bytes ∷ files) = malformed_by name (file_fault bytes) ++ malformed names files
-malformed _ _ = []
+malformed names files = of_each (λ name bytes. malformed_by name (file_fault bytes)) names files
 
 -- the conditions of a command on files that have no fault
 abbrev pub conditions : Command → List (List ℕ) → List Refusal
 conditions (Dump name) files = []
+conditions (Run run) files = run_refusals run files
 
 -- All that refuses a command, in the order in which it is asked. The first decides.
 abbrev pub refusals : Command → Reading → List Refusal
@@ -38,6 +40,7 @@ refusals command (AllRead files) = malformed (inputs command) files ++ condition
 abbrev pub IsText : Command → List (List ℕ) → ℕ → List ℕ → Type 0
 IsText (Dump name) (bytes ∷ []) status text = (status ≡ 0) × (text ≡ dump_text name bytes)
 IsText (Dump name) _ status text = ⊥
+IsText (Run run) files status text = IsRunText run files status text
 
 -- what a command comes to
 pub data Reply : Type 0 where

@@ -69,3 +69,8 @@ meaning (raised.DuplicateName i j) = DuplicateName i j
 meaning (raised.NotIlOnly name) = NotIlOnly name.now
 meaning raised.NoEntry = NoEntry
 meaning (raised.BadArguments worker) = BadArguments worker
+
+-- what refuses each file by its name and its bytes, in their order
+abbrev pub of_each : (List ℕ → List ℕ → List Refusal) → List (List ℕ) → List (List ℕ) → List Refusal
+of_each by (name ∷ names) (bytes ∷ files) = by name bytes ++ of_each by names files
+of_each by _ _ = []

@@ -6,7 +6,7 @@ use Rattle.std.specs.Fmt.{signed_decimal}
 use Rattle.std.specs.List.{list_any, list_all}
 use Rattle.std.specs.Str.{bytes_eq}
 use Rattle.std.specs.Str.Parse.{signed_digits_value}
-use Rattle.r2r.specs.Command.{is_positional}
+use Rattle.r2r.specs.Words.{is_positional}
 
 -- a method by the name of its type, with its namespace, and its own name
 pub record Entry : Type 0 where

@@ -1,13 +1,19 @@
-//! `r2r`: a compiler, loader and dumper of .NET ReadyToRun images. Today it dumps images.
+//! `r2r`: a compiler, loader and dumper of .NET ReadyToRun images. Today it dumps images, and runs
+//! assemblies from their CIL.
 #![tactic(auto)]
 
+mod checked;
 mod command;
 mod dump_file;
 mod inputs;
+mod loading;
 mod output;
+mod printing;
 mod program;
 mod refusals;
+mod run_file;
 mod run_words;
+mod starting;
 mod status;
 mod top;
 mod values;
@@ -27,6 +33,8 @@ fn main(rt: HostRuntime) -> ExitCode {
 
 #[cfg(test)]
 mod assembly_tests;
+#[cfg(test)]
+mod run_tests;
 #[cfg(test)]
 mod tests;
 #[cfg(test)]

@@ -52,6 +52,14 @@ impl<T: Drop> From<AllocFailed<T>> for Stop<'_> {
     }
 }
 
+impl From<NoMemory> for Stop<'_> {
+    ghost from_gives = { λ _ stop. stop ≡ stops.NoMemory };
+
+    fn from(_e: NoMemory) -> Self {
+        Stop::NoMemory
+    }
+}
+
 impl Refusal<'_> {
     /// The status that the program ends with.
     pub(crate) fn status(self) -> Status

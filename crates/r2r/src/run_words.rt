@@ -1,6 +1,6 @@
 //! The words of `run`.
 
-ghost use Rattle.std.specs.Prelude.{◌≡◌, ◌∷◌, ◌<◌, [], codes, length, map, option_map, string_bytes, vec_items};
+ghost use Rattle.std.specs.Prelude.{◌≡◌, ◌∷◌, ◌<◌, ◌≤◌, [], codes, length, map, option_map, string_bytes, vec_items};
 ghost use Rattle.std.specs.Prelude.{is_some, IfOk, IsSome, MatchOption, Some};
 ghost use Rattle.std.specs.List.{list_all};
 ghost use Rattle.std.specs.Option.{option_copied};
@@ -297,7 +297,8 @@ impl<'a> RunWords<'a> {
 
     /// The arguments of each worker, in their order.
     pub(crate) fn workers(&self, alloc: Global) -> Result<Vec<Vec<i128>>, NoMemory>
-        ensures { IfOk result (λ workers. map vec_items workers.items ≡ self.now.workers) }
+        ensures workers { IfOk result (λ workers. map vec_items workers.items ≡ self.now.workers) }
+        ensures few { IfOk result (λ workers. length workers.items ≤ 16) }
     {
         let workers = given_workers(alloc, self.words)?;
         if workers.is_empty() {

@@ -21,6 +21,8 @@ pub(crate) enum Status {
     Refused = 4,
     /// The output failed.
     WriteFault = 5,
+    /// All was written, and a worker of a run did not return.
+    NotReturned = 6,
     /// Memory was refused, and nothing was written.
     NoMemory = 7,
 }

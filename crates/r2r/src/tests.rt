@@ -224,7 +224,10 @@ fn expect_text<R: Threads + Sync + Abort>(
 #[test]
 fn words_that_are_no_command(rt: HostRuntime) -> Result<(), Fail> {
     let alloc = rt.alloc();
-    let mut lines = "|run|run A --ticks 01|dump|dump A B|dump -x|DUMP T|big 3".split('|');
+    let mut lines =
+        "|run|run A B|run A --cells|run A --entry Main|run A --ticks 01|dump|dump A B|dump -x|DUMP T|big 3".split(
+            '|',
+        );
     for line in &mut lines {
         expect(&rt, alloc, line, Vec::new(alloc), 1, USAGE_LINE)?;
     }

@@ -8,6 +8,7 @@ use crate::command::Command;
 use crate::dump_file::dump_file;
 use crate::output::print;
 use crate::refusals::USAGE;
+use crate::run_file::run_file;
 use crate::status::Status;
 use rtr_outside::{Files, Gate, Sink};
 use std::alloc::Global;
@@ -17,9 +18,10 @@ use std::thread::Threads;
 /// program ends with. `words` are the arguments after the program's name.
 ///
 /// The status is 0 where all was written; 1 where the words are no command; 2 where a file could not be read; 3
-/// where a file is malformed; 4 where a named condition refuses: the file is above `rtr_outside::FILE_LIMIT`; 5
-/// where the output failed; 7 where memory was refused, or a file's signatures are too long together
-/// (`cli_assembly::Assembly::read`), and then nothing was written.
+/// where a file is malformed; 4 where a named condition refuses: there are more than 64 files, a file is above
+/// `rtr_outside::FILE_LIMIT`, two files have one simple name, a file has no flag of IL, there is no such entry, or it does not take a
+/// worker's arguments; 5 where the output failed; 6 where all was written, and a worker did not return; 7 where memory was refused, or
+/// a file's signatures are too long together (`cli_assembly::Assembly::read`), and then nothing was written.
 pub fn r2r<R: Threads + Sync, F: Files, S: Sink, G: Gate>(
     _rt: &R,
     alloc: Global,
@@ -38,5 +40,6 @@ pub fn r2r<R: Threads + Sync, F: Files, S: Sink, G: Gate>(
             u8::from(Status::Usage)
         }
         Command::Dump(name) => u8::from(dump_file(alloc, name, files, out)),
+        Command::Run(asked) => u8::from(run_file(alloc, &asked, files, out)),
     }
 }

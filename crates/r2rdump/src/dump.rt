@@ -114,6 +114,20 @@ fn read_assembly(alloc: Global, pe: &Pe, bytes: &[u8]) -> Result<Assembly, ReadR
     }
 }
 
+/// The assembly of a file's bytes, of which there are at most 2^31, where they pass each check. `Malformed` names the first of the checks
+/// of [`dump_text`] that fails, with its place.
+pub fn read_file(alloc: Global, bytes: &[u8]) -> Result<Assembly, ReadRefusal>
+    requires { length bytes.now ≤ 2 ^ 31 }
+    ensures malformed { IfErr result (λ e. RefusedBy (file_fault bytes.now) e) }
+    ensures well_formed { OnOk result (file_fault bytes.now ≡ None) }
+    ensures bytes { IfOk result (λ assembly. assembly ≡ bytes.now) }
+{
+    let pe = Pe::read(alloc, bytes)?;
+    let assembly = read_assembly(alloc, &pe, bytes)?;
+    let _image = read_image(alloc, &pe, bytes, assembly.rows(Table::MethodDef))?;
+    Ok(assembly)
+}
+
 /// The text of a file of a name and a length that has these headers, this ReadyToRun part and this assembly.
 fn printed(
     alloc: Global,

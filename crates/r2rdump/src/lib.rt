@@ -12,7 +12,7 @@ mod rows;
 mod text;
 mod types;
 
-pub use dump::{DumpRefusal, dump_text};
+pub use dump::{DumpRefusal, dump_text, read_file};
 pub use laws::fault_is_the_lower;
 
 #[cfg(test)]

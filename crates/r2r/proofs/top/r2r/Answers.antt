@@ -1,6 +1,6 @@
 use Rattle.std.proofs.Common.{ℕ, List, map, string_bytes, refl, sym, subst}
 use Rattle.r2r.specs.Outside.{PrintsText, seen}
-use Rattle.r2r.proofs.RunsOf.{usage_runs, dump_runs}
+use Rattle.r2r.proofs.RunsOf.{usage_runs, dump_runs, run_runs}
 use Rattle.r2r.proofs.top.r2r.Goals as goal
 
 pub returns-in-Usage : goal.returns-in-Usage
@@ -23,3 +23,12 @@ returns-in-Dump g c =
     dump_runs (map string_bytes c.args.words.now) before after c.from-in-Dump.result c.dump_file.ensures.contents
     c.dump_file.ensures.never_falls c.in-Dump.name.now (sym c.in-Dump.ensures)
     (rw c.from-in-Dump.ensures c.dump_file.ensures.ends)
+
+pub returns-in-Run : goal.returns-in-Run
+returns-in-Run g c =
+    let sink = g.S.Sink in
+    let files = g.F.Files in
+    let before = seen files.contents files.failed_calls sink.written sink.faults c.args.files.now c.args.out.now in
+    let after = seen files.contents files.failed_calls sink.written sink.faults c.run_file.new.files c.run_file.new.out in
+    run_runs (map string_bytes c.args.words.now) before after c.from-in-Run.result c.run_file.ensures.contents
+    c.run_file.ensures.never_falls c.in-Run.asked (sym c.in-Run.ensures) (rw c.from-in-Run.ensures c.run_file.ensures.ends)

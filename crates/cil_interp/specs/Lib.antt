@@ -1,0 +1,12 @@
+pub mod Entered
+pub mod Flat
+pub mod Frames
+pub mod Lines
+pub mod Lower
+pub mod Means
+pub mod Offsets
+pub mod Ran
+pub mod Stacks
+pub mod Table
+pub mod View
+pub mod Words
