@@ -1,4 +1,4 @@
-mod Sizes
+pub mod Sizes
 mod Followed
 mod Marked
 mod Numbers

@@ -76,18 +76,18 @@ pub record IsRead (code : List ℕ) (at : ℕ) (i : Instr) : Type 0 where
   pub at_is : i.at ≡ at
   pub some : 0 < instr_size i
 
-sized : (at form : ℕ) (arg : Arg) → 0 < instr_size (instr at form arg)
+pub some_size : (i : Instr) → 0 < instr_size i
 unfolding instr_size
-sized at form arg =
+some_size i =
     let P : ℕ → Type 0 = λ n. 0 < n in
-    let some : 0 < form_size form = either_way P (nat_lt form 0x100) 1 2 (λ _. omega arith) (λ _. omega arith) in
+    let some : 0 < form_size i.form = either_way P (nat_lt i.form 0x100) 1 2 (λ _. omega arith) (λ _. omega arith) in
     omega arith
 
 with_arg-read : (code : List ℕ) (at form : ℕ) (arg : Option Arg) (i : Instr) → with_arg at form arg ≡ Ok i → IsRead code at i
 with_arg-read code at form None i e = absurd (let x : ⊥ = cc in x)
 with_arg-read code at form (Some arg) i e =
     let same : instr at form arg ≡ i = cc in
-    subst (IsRead code at) same (record { at_is = refl; some = sized at form arg })
+    subst (IsRead code at) same (record { at_is = refl; some = some_size (instr at form arg) })
 
 with_operand-read : (code : List ℕ) (at form : ℕ) (operand : Option Operand) (i : Instr)
     → with_operand code at form operand ≡ Ok i → IsRead code at i
@@ -101,3 +101,6 @@ with_form-read code at (Some form) i e = with_operand-read code at form (operand
 pub is_read : (code : List ℕ) (at : ℕ) (i : Instr) → instr_at code at ≡ Ok i → IsRead code at i
 unfolding instr_at
 is_read code at i e = with_form-read code at (form_in (drop at code)) i e
+
+pub offset_is : (code : List ℕ) (at : ℕ) (i : Instr) → instr_at code at ≡ Ok i → i.at ≡ at
+offset_is code at i e = (is_read code at i e).at_is

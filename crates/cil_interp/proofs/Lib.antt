@@ -11,10 +11,12 @@ pub mod Enters
 pub mod Entries
 pub mod Followed
 pub mod Follows
+pub mod Fuses
 pub mod Gives
 pub mod Giving
 pub mod Meets
 pub mod Narrow
+pub mod Onward
 pub mod Operations
 pub mod Places
 pub mod Printed
@@ -26,5 +28,6 @@ pub mod Small
 pub mod Stepped
 pub mod Stepping
 pub mod Steps
+pub mod Together
 pub mod Transfers
 pub mod WorldRows

@@ -1,6 +1,7 @@
 pub mod Entered
 pub mod Flat
 pub mod Frames
+pub mod Fused
 pub mod Lines
 pub mod Lower
 pub mod Means

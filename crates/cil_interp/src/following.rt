@@ -217,7 +217,7 @@ fn run_last(
         return Event::End(Ending::Unsupported);
     };
     let codes = body.codes();
-    let effect = run_frame(world, codes, &mut a, words, meter);
+    let effect = run_frame(world, codes, body.fused(), &mut a, words, meter);
     leave(stack, a, effect, meter)
 }
 

@@ -12,6 +12,8 @@ mod code;
 mod enter;
 mod following;
 mod frames;
+mod fused;
+mod fusing;
 mod instruction;
 mod lower;
 mod meter;

@@ -31,6 +31,14 @@ const FIB: [u8; 24] = [
     1, 0, 0, 6, 0x58, 0x2A,
 ];
 
+/// Calls itself with one less until its `int` is zero, and gives zero.
+const DEPTH: [u8; 14] = [
+    0x02, 0x2C, 0x09, 0x02, 0x17, 0x59, 0x28, 1, 0, 0, 6, 0x2A, 0x16, 0x2A,
+];
+
+/// The least `int` divided by an `int`.
+const LEAST: [u8; 8] = [0x20, 0, 0, 0, 0x80, 0x02, 0x5B, 0x2A];
+
 /// The signature of a static method of an `int`.
 fn sig(alloc: Global, ret: TypeSig) -> Result<MethodSig, Fail> {
     let parameters = [TypeSig::Int(Elem::I4)];
@@ -104,5 +112,25 @@ fn a_sum_by_calls(rt: HostRuntime) -> Result<(), Fail> {
     let alloc = rt.alloc();
     let world = program(alloc, TypeSig::Int(Elem::I4), &[], &FIB)?;
     assert!(rt; run(alloc, &world, 20, 100_000)? == Ending::Return(6765));
+    Ok(())
+}
+
+#[test]
+fn frames_and_ticks(rt: HostRuntime) -> Result<(), Fail> {
+    let alloc = rt.alloc();
+    let world = program(alloc, TypeSig::Int(Elem::I4), &[], &DEPTH)?;
+    assert!(rt; run(alloc, &world, 1_023, 2_048)? == Ending::Return(0));
+    assert!(rt; run(alloc, &world, 1_024, 1_025)? == Ending::DepthLimit);
+    assert!(rt; run(alloc, &world, 1_024, 1_024)? == Ending::OutOfTicks);
+    Ok(())
+}
+
+#[test]
+fn divisions(rt: HostRuntime) -> Result<(), Fail> {
+    let alloc = rt.alloc();
+    let world = program(alloc, TypeSig::Int(Elem::I4), &[], &LEAST)?;
+    assert!(rt; run(alloc, &world, 2, 9)? == Ending::Return(0xC000_0000));
+    assert!(rt; run(alloc, &world, 0, 9)? == Ending::DivideByZero);
+    assert!(rt; run(alloc, &world, 0xFFFF_FFFF, 9)? == Ending::Overflow);
     Ok(())
 }

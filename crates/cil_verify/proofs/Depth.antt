@@ -26,6 +26,7 @@ use Rattle.type_world.specs.Typing.{compares_two, flow_at, flow_by, flow_if, flo
 use Rattle.type_world.specs.Typing.{kind_fits, kind_of, last_first, pops, pops_into, pushes, result_onto, returns, same_typing, same_width}
 use Rattle.type_world.specs.Typing.{settled, settled_or, stack_at, switches, takes_count, under_arguments, widen_all, with_flow}
 use Rattle.type_world.specs.Typing.{with_stack}
+use Rattle.type_world.proofs.Rounds.{at_itself, at_others, merged}
 use Rattle.cil_verify.specs.Subjects.{Subject, is_deep, is_typing_of, least_of, meets_in, rounded, settled_in}
 use Rattle.cil_verify.specs.Subjects.{settled_of, takes_in, too_deep, visited}
 
@@ -280,45 +281,7 @@ longs_after t u v g h = λ at ks e.
     let two = h at one.found one.is in
     record { found = two.found; is = two.is; long = long_after two.found one.found ks two.long one.long }
 
-abbrev stack_in : Option (ℕ × List Kind) → Option (List Kind)
-stack_in o = option_map (λ f. f.1) o
-
 module _ (world : World) where
-  abbrev merged : List Kind → Option (List Kind) → List Kind
-  merged s None = s
-  merged s (Some ks) = widen_all world ks s
-
-  at_others : (s : List Kind) (to at : ℕ) (t : Typing) → (to == at) ≡ false → stack_at (with_stack world s to t) at ≡ stack_at t at
-  unfolding with_stack
-  at_others s to at [] e = ap (λ b. stack_in (cond b (Some (to, s)) None)) e
-  at_others s to at (found ∷ t) e = by_here (at_others s to at t e) (found.0 == to) refl
-    where
-      by_here : stack_at (with_stack world s to t) at ≡ stack_at t at → (b : Bool) → (found.0 == to) ≡ b
-          → stack_at (if b then (to, widen_all world found.1 s) ∷ t else found ∷ with_stack world s to t) at ≡ stack_at (found ∷ t) at
-      by_here rest true q =
-          let here : found.0 ≡ to = eqb-true found.0 to q in
-          let other : (found.0 == at) ≡ false = subst (λ n. (n == at) ≡ false) (sym here) e in
-          ap (λ b. stack_in (cond b (Some (to, widen_all world found.1 s)) (find (λ f. f.0 == at) t))) e
-          ∙ sym (ap (λ b. stack_in (cond b (Some found) (find (λ f. f.0 == at) t))) other)
-      by_here rest false q = by_found (found.0 == at)
-        where
-          by_found : (b : Bool) → stack_in (cond b (Some found) (find (λ f. f.0 == at) (with_stack world s to t)))
-              ≡ stack_in (cond b (Some found) (find (λ f. f.0 == at) t))
-          by_found true = refl
-          by_found false = rest
-
-  at_itself : (s : List Kind) (to : ℕ) (t : Typing) → stack_at (with_stack world s to t) to ≡ Some (merged s (stack_at t to))
-  unfolding with_stack
-  at_itself s to [] = ap (λ b. stack_in (cond b (Some (to, s)) None)) (eq-eqb to to refl)
-  at_itself s to (found ∷ t) = by_here (at_itself s to t) (found.0 == to) refl
-    where
-      by_here : stack_at (with_stack world s to t) to ≡ Some (merged s (stack_at t to)) → (b : Bool)
-          → (found.0 == to) ≡ b → stack_at
-          (if b then (to, widen_all world found.1 s) ∷ t else found ∷ with_stack world s to t) to
-          ≡ Some (merged s (stack_in (cond b (Some found) (find (λ f. f.0 == to) t))))
-      by_here rest true q = ap (λ b. stack_in (cond b (Some (to, widen_all world found.1 s)) (find (λ f. f.0 == to) t))) (eq-eqb to to refl)
-      by_here rest false q = ap (λ b. stack_in (cond b (Some found) (find (λ f. f.0 == to) (with_stack world s to t)))) q ∙ rest
-
   kept : (s : List Kind) (to : ℕ) (t : Typing) → Longs t (with_stack world s to t)
   kept s to t = λ at ks e. by_test at ks e (to == at) refl
     where
@@ -327,13 +290,13 @@ module _ (world : World) where
           let here : to ≡ at = eqb-true to at q in
           let before : stack_at t to ≡ Some ks = subst (λ n. stack_at t n ≡ Some ks) (sym here) e in
           let after : stack_at (with_stack world s to t) to ≡ Some (widen_all world ks s) =
-          at_itself s to t ∙ ap (λ o. Some (merged s o)) before in
+          at_itself world s to t ∙ ap (λ o. Some (merged world s o)) before in
           record {
             found = widen_all world ks s;
             is = subst (λ n. stack_at (with_stack world s to t) n ≡ Some (widen_all world ks s)) here after;
             long = widened_long world ks s;
           }
-      by_test at ks e false q = record { found = ks; is = at_others s to at t q ∙ e; long = long_itself ks }
+      by_test at ks e false q = record { found = ks; is = at_others world s to at t q ∙ e; long = long_itself ks }
 
   each_kept : (s : List Kind) (to : List ℕ) (t : Typing) → Longs t (fold (λ so_far at. with_stack world s at so_far) t to)
   each_kept s [] t = longs_itself t

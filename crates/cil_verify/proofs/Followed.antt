@@ -1,37 +1,10 @@
 -- Instructions one after the other: where each begins and ends.
 use Rattle.std.proofs.Common.{◌≡◌, ℕ, zero, suc, ◌+◌, ◌<◌, ◌≤◌, Bool, true, false, List, [], ◌∷◌, length, drop, get_or}
 use Rattle.std.proofs.Common.{Option, Some, None, Ok, refl, sym, ap, ◌∙◌, arith, nat_lt, if◌then◌else◌}
-use Rattle.cil_decode.specs.declared.instr.Arg.{Arg}
 use Rattle.cil_decode.specs.declared.instr.Instr.{Instr}
-use Rattle.cil_decode.specs.declared.opcode.Operand.{Operand}
-use Rattle.cil_decode.specs.Opcodes.{operand_of}
-use Rattle.cil_decode.specs.Instructions.{form_in, form_size, instr, instr_at, instr_size, operand_at, with_arg, with_form, with_operand}
+use Rattle.cil_decode.specs.Instructions.{instr_at, instr_size}
 use Rattle.cil_decode.specs.Bodies.{Follow, IsCode}
-
--- an instruction has the offset at which it is read
-pub at_is : (code : List ℕ) (at : ℕ) (i : Instr) → instr_at code at ≡ Ok i → i.at ≡ at
-unfolding instr_at
-at_is code at i e = by_form (form_in (drop at code)) e
-  where
-    by_arg : (form : ℕ) (o : Option Arg) → with_arg at form o ≡ Ok i → i.at ≡ at
-    by_arg form None e = absurd (cc)
-    by_arg form (Some arg) e = let is : instr at form arg ≡ i = cc in sym (ap (λ j. j.at) is)
-
-    by_operand : (form : ℕ) (o : Option Operand) → with_operand code at form o ≡ Ok i → i.at ≡ at
-    by_operand form None e = absurd (cc)
-    by_operand form (Some operand) e = by_arg form (operand_at code (at + form_size form) operand) e
-
-    by_form : (o : Option ℕ) → with_form code at o ≡ Ok i → i.at ≡ at
-    by_form None e = absurd (cc)
-    by_form (Some form) e = by_operand form (operand_of form) e
-
-one_or_two : (b : Bool) → 0 < (if b then 1 else 2)
-one_or_two true = omega arith
-one_or_two false = omega arith
-
-pub some_size : (i : Instr) → 0 < instr_size i
-unfolding instr_size
-some_size i = omega (arith, one_or_two (nat_lt i.form 0x100))
+use Rattle.cil_decode.proofs.Sizes.{offset_is, some_size}
 
 -- there are no more instructions than bytes
 count_within : (code : List ℕ) (at end : ℕ) (list : List Instr) → Follow code at list end → at + length list ≤ end
@@ -50,13 +23,13 @@ starts_at (i ∷ list) end = i.at
 
 first_at : (code : List ℕ) (at end : ℕ) (list : List Instr) → Follow code at list end → starts_at list end ≡ at
 first_at code at end [] e = sym e
-first_at code at end (i ∷ list) (read, rest) = at_is code at i read
+first_at code at end (i ∷ list) (read, rest) = offset_is code at i read
 
 ends_at : (code : List ℕ) (at end k : ℕ) (list : List Instr) (d : Instr) → k < length list → Follow code at list end
     → starts_at (drop (suc k) list) end ≡ (get_or list k d).at + instr_size (get_or list k d)
 ends_at code at end k [] d k_in follow = absurd (omega arith)
 ends_at code at end zero (i ∷ list) d k_in (read, rest) =
-    first_at code (at + instr_size i) end list rest ∙ ap (λ n. n + instr_size i) (sym (at_is code at i read))
+    first_at code (at + instr_size i) end list rest ∙ ap (λ n. n + instr_size i) (sym (offset_is code at i read))
 ends_at code at end (suc k) (i ∷ list) d k_in (read, rest) =
     ends_at code (at + instr_size i) end k list d (omega arith) rest
 
@@ -92,7 +65,7 @@ end_is code list k d c k_in out =
 from_at : (code : List ℕ) (at end k : ℕ) (list : List Instr) (d : Instr) → k < length list → Follow code at list end
     → at ≤ (get_or list k d).at
 from_at code at end k [] d k_in follow = absurd (omega arith)
-from_at code at end zero (i ∷ list) d k_in (read, rest) = omega (arith, at_is code at i read)
+from_at code at end zero (i ∷ list) d k_in (read, rest) = omega (arith, offset_is code at i read)
 from_at code at end (suc k) (i ∷ list) d k_in (read, rest) =
     omega (arith, from_at code (at + instr_size i) end k list d (omega arith) rest)
 
@@ -100,7 +73,7 @@ ascend_from : (code : List ℕ) (at end j k : ℕ) (list : List Instr) (d : Inst
     → (get_or list j d).at ≤ (get_or list k d).at
 ascend_from code at end j k [] d up k_in follow = absurd (omega arith)
 ascend_from code at end zero k (i ∷ list) d up k_in (read, rest) =
-    omega (arith, at_is code at i read, from_at code at end k (i ∷ list) d k_in (read, rest))
+    omega (arith, offset_is code at i read, from_at code at end k (i ∷ list) d k_in (read, rest))
 ascend_from code at end (suc j) zero (i ∷ list) d up k_in follow = absurd (omega arith)
 ascend_from code at end (suc j) (suc k) (i ∷ list) d up k_in (read, rest) =
     ascend_from code (at + instr_size i) end j k list d (omega arith) (omega arith) rest

@@ -9,3 +9,4 @@ mod Marked
 mod Counted
 mod Fitted
 mod Found
+mod Leasts

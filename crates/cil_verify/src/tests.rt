@@ -2,7 +2,9 @@
 
 use super::*;
 use asm_builder::Draft;
-use cli_assembly::{Assembly, Elem, METHOD_STATIC, MethodSig, TypeSig};
+use cli_assembly::{
+    Assembly, Elem, METHOD_ABSTRACT, METHOD_STATIC, METHOD_VIRTUAL, MethodSig, TypeSig,
+};
 use rtr_bytes::Sequence;
 use std::alloc::Global;
 use std::test::Fail;
@@ -80,5 +82,22 @@ fn others_are_refused(rt: HostRuntime) -> Result<(), Fail> {
     assert!(rt; refusal(alloc, flags, 2, &code)?.is_none());
     // The same, of a method that isn't static.
     assert!(rt; refusal(alloc, 6, 2, &code)? == Some(VerifyRefusal::NotInProfile));
+    Ok(())
+}
+
+#[test]
+fn widths_and_bodies_are_asked(rt: HostRuntime) -> Result<(), Fail> {
+    let alloc = rt.alloc();
+    let flags = METHOD_STATIC | 6;
+    // ldc.i4.0; ldc.i8 0; add; ret
+    let code = [0x16, 0x21, 0, 0, 0, 0, 0, 0, 0, 0, 0x58, 0x2A];
+    assert!(rt; refusal(alloc, flags, 2, &code)? == Some(VerifyRefusal::NoTyping(10)));
+    // ldc.i4.0; ret
+    let world = world_with(alloc, flags, 1, &[0x16, 0x2A])?;
+    let typed = verify(alloc, &world, MethodId { asm: 0, row: 1 })?;
+    assert!(rt; shown(alloc, &typed)?.as_str() == "0 []\n1 [I4]\n");
+    // Without a body.
+    let flags = METHOD_ABSTRACT | METHOD_VIRTUAL | 6;
+    assert!(rt; refusal(alloc, flags, 0, &[])? == Some(VerifyRefusal::NotInProfile));
     Ok(())
 }

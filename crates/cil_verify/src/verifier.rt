@@ -6,7 +6,7 @@ ghost use Rattle.type_world.specs.Loading.{as_method, world_of};
 ghost use Rattle.type_world.specs.Profile.{instrs_of, profile_method};
 ghost use Rattle.type_world.specs.Typing.{method_in_profile, stack_at, typing_of};
 ghost use Rattle.cil_verify.specs.declared.verifier.VerifyRefusal.TheVariants as refusals;
-ghost use Rattle.cil_verify.specs.Verified.{IsRefused, IsUntypedBy, instrs_in, typing_in};
+ghost use Rattle.cil_verify.specs.Verified.{HasLeast, IsRefused, IsUntypedBy, Lacks, instrs_in, typing_in};
 
 use crate::code::Code;
 use crate::search::first_untyped;
@@ -18,7 +18,8 @@ use std::alloc::Global;
 use std::marker::Model;
 use thiserror::Error;
 use type_world::{
-    Kind, MethodId, ProfileMethod, World, codes_are_instructions, untyped_code_has_a_first_offset,
+    Kind, MethodId, ProfileMethod, World, codes_are_instructions, rounds_find_the_least,
+    rounds_find_typings, untyped_code_has_a_first_offset,
 };
 
 /// Why a method has no typing.
@@ -128,10 +129,10 @@ fn typed_or_refused(alloc: Global, world: &World, m: MethodId) -> Result<Typed, 
     })
 }
 
-/// The typing of a method (ECMA-335 III.1.7.5 and III.1.8.1). It is the least one: where flows meet, references widen to their nearest
-/// common base. `NotInProfile` comes exactly where a condition of the profile other than verifying fails; else `NoTyping` comes exactly
-/// where there is no typing, with the least offset of an instruction such that there is none even where each later instruction ends the
-/// run. `NoMemory` comes where memory is refused.
+/// The typing of a method (ECMA-335 III.1.8.1). It is the least one: it has exactly the offsets that are reached, and its stacks fit those
+/// of every typing. Where flows meet, references widen to their nearest common base (III.1.8.1.3). `NotInProfile` comes exactly where a
+/// condition of the profile other than verifying fails; else `NoTyping` comes exactly where there is no typing, with the least offset of
+/// an instruction such that there is none even where each later instruction ends the run. `NoMemory` comes where memory is refused.
 ///
 /// It takes time for each instruction in each round, and a round after which nothing changed is the last one; where there is no typing,
 /// it does so again for each half.
@@ -140,9 +141,16 @@ pub fn verify(alloc: Global, world: &World, m: MethodId) -> Result<Typed, Verify
     ensures instrs { IfOk result (λ typed. instrs_in (world_of world.now) m ≡ Some typed.instrs) }
     ensures typing { IfOk result (λ typed. typing_in (world_of world.now) m ≡ Some typed.typing) }
     ensures refused { IfErr result (IsRefused (world_of world.now) m) }
+    // In the words of the laws of typings: it has the offsets that are reached, and its stacks fit those of every typing.
+    ensures least { IfOk result (HasLeast (world_of world.now) m) }
+    // There is none of the code, and none up to the offset, and there is one up to each earlier instruction.
+    ensures untyped { IfErr result (Lacks (world_of world.now) m) }
     // So the method is in the profile exactly where it has a typing.
     ensures in_profile { IfOk result (λ typed. method_in_profile (world_of world.now) m ≡ profile_method (world_of world.now) m) }
     ensures outside { IfErr result (λ e. e ≢ refusals.NoMemory → method_in_profile (world_of world.now) m ≡ None) }
 {
+    rounds_find_the_least();
+    rounds_find_typings();
+    untyped_code_has_a_first_offset();
     typed_or_refused(alloc, world, m)
 }

@@ -6,11 +6,11 @@ use Rattle.std.specs.List.{flat_map, AllByRecursion}
 use Rattle.std.specs.Int.Digits.{digits_of, number_from_digits_after, AllBelowBase}
 use Rattle.std.proofs.Math.Nat.{pow-suc, one-le-pow, le-mul_of_pos_right, mul-le-mul_left}
 use Rattle.std.proofs.lemmas.Bool.{eq-eqb, ne_eqb, lt-ltb, le-ltb, cases_lt}
-use Rattle.std.proofs.lemmas.List.{append-nil, length-append, length-map, map-append, drop_more, drop_all}
+use Rattle.std.proofs.lemmas.List.{append-nil, length-append, length-map, map-append, drop_more, drop_all, drop-drop}
 use Rattle.std.proofs.lemmas.Int.Digits.{number_digits_of, all_below_base_digits_of, length-digits_of-le, length-digits_of_step}
 use Rattle.std.proofs.lemmas.Int.Digits.{digits_of_step}
-use Rattle.native_format.specs.Nibbles.{nibbles, numbers_after, numbers, groups, packed}
-use Rattle.native_format.specs.NibbleSteps.{IsLost, ReadsNumber, numbers_from}
+use Rattle.native_format.specs.Nibbles.{nibbles, numbers_after, numbers, numbers_len, groups, packed}
+use Rattle.native_format.specs.NibbleSteps.{IsLost, ReadsNumber, nibble_after, numbers_from}
 
 -- ---- nibbles by their place
 
@@ -79,6 +79,98 @@ pub next_is : (bytes : List ℕ) (high at n : ℕ) → n ≡ get_or (nibbles byt
 next_is bytes high at n is h =
     rw (drop_more (nibbles bytes) at 0 (omega (arith, length-nibbles bytes)), is) refl
 
+-- ---- how many nibbles numbers have
+
+len_zero : (at : ℕ) (ns : List ℕ) → at + numbers_len 0 ns ≡ at
+unfolding numbers_len
+len_zero at ns = omega arith
+
+len_last : (k n : ℕ) (ns : List ℕ) → n < 8 → numbers_len (suc k) (n ∷ ns) ≡ 1 + numbers_len k ns
+unfolding numbers_len
+len_last k n ns h = rw (lt-ltb n 8 h) refl
+
+len_marked : (k n : ℕ) (ns : List ℕ) → 8 ≤ n → numbers_len (suc k) (n ∷ ns) ≡ 1 + numbers_len (suc k) ns
+unfolding numbers_len
+len_marked k n ns h = rw (le-ltb n 8 h) refl
+
+-- the nibble at a place ends a number, or more of it follows
+len_ends : (bytes : List ℕ) (at n k : ℕ) → n ≡ get_or (nibbles bytes) at 0 → at < 2 * length bytes → n < 8
+    → nibble_after (suc k) bytes at ≡ nibble_after k bytes (at + 1)
+len_ends bytes at n k is h lt =
+    let after = drop (at + 1) (nibbles bytes) in
+    let here : drop at (nibbles bytes) ≡ n ∷ after = rw (drop_more (nibbles bytes) at 0 (omega (arith, length-nibbles bytes)), is) refl in
+    let one : numbers_len (suc k) (drop at (nibbles bytes)) ≡ 1 + numbers_len k after =
+    ap (numbers_len (suc k)) here ∙ len_last k n after lt in
+    omega (arith, one)
+
+pub len_more : (bytes : List ℕ) (at n k : ℕ) → n ≡ get_or (nibbles bytes) at 0 → at < 2 * length bytes → 8 ≤ n
+    → nibble_after (suc k) bytes at ≡ nibble_after (suc k) bytes (at + 1)
+len_more bytes at n k is h le =
+    let after = drop (at + 1) (nibbles bytes) in
+    let here : drop at (nibbles bytes) ≡ n ∷ after = rw (drop_more (nibbles bytes) at 0 (omega (arith, length-nibbles bytes)), is) refl in
+    let one : numbers_len (suc k) (drop at (nibbles bytes)) ≡ 1 + numbers_len (suc k) after =
+    ap (numbers_len (suc k)) here ∙ len_marked k n after le in
+    omega (arith, one)
+
+len_nothing : (k : ℕ) → numbers_len k [] ≡ 0
+unfolding numbers_len
+len_nothing zero = refl
+len_nothing (suc k) = refl
+
+len_none : (ns : List ℕ) → numbers_len 0 ns ≡ 0
+unfolding numbers_len
+len_none ns = refl
+
+drop_next : (m n : ℕ) (ns : List ℕ) → drop (1 + m) (n ∷ ns) ≡ drop m ns
+drop_next m n ns =
+    let next : 1 + m ≡ suc m = omega arith in
+    ap (λ i. drop i (n ∷ ns)) next
+
+-- one nibble more before the rest
+rest_is : (k m n first : ℕ) (ns : List ℕ) → first ≡ 1 + m → numbers_len k (drop first (n ∷ ns)) ≡ numbers_len k (drop m ns)
+rest_is k m n first ns e = ap (λ i. numbers_len k (drop i (n ∷ ns))) e ∙ ap (numbers_len k) (drop_next m n ns)
+
+-- some numbers, and then others
+pub len_both : (j k : ℕ) (ns : List ℕ) → numbers_len (j + k) ns ≡ numbers_len j ns + numbers_len k (drop (numbers_len j ns) ns)
+len_both zero k ns =
+    let sum : 0 + k ≡ k = omega arith in
+    let whole : numbers_len (0 + k) ns ≡ numbers_len k ns = ap (λ i. numbers_len i ns) sum in
+    let rest : numbers_len k (drop (numbers_len 0 ns) ns) ≡ numbers_len k ns = ap (λ i. numbers_len k (drop i ns)) (len_none ns) in
+    omega (arith, whole, rest, len_none ns)
+len_both (suc j) k [] =
+    let none = len_nothing (suc j) in
+    let rest : numbers_len k (drop (numbers_len (suc j) []) []) ≡ numbers_len k [] = ap (λ i. numbers_len k (drop i [])) none in
+    omega (arith, len_nothing (suc j + k), none, rest, len_nothing k)
+len_both (suc j) k (n ∷ ns) =
+    let sum : suc j + k ≡ suc (j + k) = omega arith in
+    let again : numbers_len (suc j + k) (n ∷ ns) ≡ numbers_len (suc (j + k)) (n ∷ ns) = ap (λ i. numbers_len i (n ∷ ns)) sum in
+    elim (cases_lt n 8) [
+      | inl lt ↦
+          let first = len_last j n ns lt in
+          omega (arith, again, len_last (j + k) n ns lt, first, rest_is k (numbers_len j ns) n _ ns first, len_both j k ns)
+      | inr le ↦
+          let first = len_marked j n ns le in
+          let same : numbers_len (suc j + k) ns ≡ numbers_len (suc (j + k)) ns = ap (λ i. numbers_len i ns) sum in
+          omega (
+            arith,
+            again,
+            same,
+            len_marked (j + k) n ns le,
+            first,
+            rest_is k (numbers_len (suc j) ns) n _ ns first,
+            len_both (suc j) k ns,
+          )
+    ]
+
+pub after_both : (bytes : List ℕ) (start mid after j k : ℕ) → mid ≡ nibble_after j bytes start → after ≡ nibble_after k bytes mid
+    → after ≡ nibble_after (j + k) bytes start
+after_both bytes start mid after j k one two =
+    let ns = drop start (nibbles bytes) in
+    let there : drop (numbers_len j ns) ns ≡ drop mid (nibbles bytes) =
+    drop-drop (numbers_len j ns) start (nibbles bytes) ∙ ap (λ n. drop n (nibbles bytes)) (sym one) in
+    let sum = len_both j k ns ∙ ap (λ l. numbers_len j ns + numbers_len k l) there in
+    omega (arith, one, two, sum)
+
 -- what one nibble more leaves to be read, by the first number that was to be read
 pub too_wide : (bytes : List ℕ) (high at n : ℕ) (all : List ℕ) → n ≡ get_or (nibbles bytes) at 0 → n < 16 → at < 2 * length bytes
     → 2 ^ 32 ≤ high * 8 + n % 8 → numbers_after high (drop at (nibbles bytes)) ≡ all → IsLost all
@@ -98,14 +190,16 @@ goes_on bytes high at n all is narrow h le e =
 
 pub ends : (bytes : List ℕ) (high at n start : ℕ) → n ≡ get_or (nibbles bytes) at 0 → at < 2 * length bytes → n < 8 → start ≤ at
     → high * 8 + n % 8 < 2 ^ 32
-    → numbers_after high (drop at (nibbles bytes)) ≡ numbers_from bytes start → ReadsNumber bytes start (high * 8 + n % 8) (at + 1)
-ends bytes high at n start is h lt le fits e =
+    → numbers_after high (drop at (nibbles bytes)) ≡ numbers_from bytes start → nibble_after 1 bytes at ≡ nibble_after 1 bytes start
+    → ReadsNumber bytes start (high * 8 + n % 8) (at + 1)
+ends bytes high at n start is h lt le fits e same =
     let value : high * 8 + n % 8 ≡ 8 * high + n = omega arith in
     record {
       further = omega arith;
       within = omega arith;
       fits = fits;
       numbers_are = sym e ∙ next_is bytes high at n is h ∙ rw value (numbers_last high n (drop (at + 1) (nibbles bytes)) lt);
+      after_is = sym (len_ends bytes at n 0 is h lt ∙ len_zero (at + 1) (drop (at + 1) (nibbles bytes))) ∙ same;
     }
 
 pub cut : (bytes : List ℕ) (high at : ℕ) (all : List ℕ) → 2 * length bytes ≤ at → numbers_after high (drop at (nibbles bytes)) ≡ all

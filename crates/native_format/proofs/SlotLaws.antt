@@ -7,16 +7,18 @@ use Rattle.std.specs.Result.{IfOk}
 use Rattle.std.specs.List.{flat_map, AllByRecursion}
 use Rattle.std.specs.Global.{Vec}
 use Rattle.std.proofs.lemmas.Bool.{eq-eqb, ne_eqb, lt-ltb, le-ltb, ltb-true, and_parts, and_right}
-use Rattle.std.proofs.lemmas.List.{append-nil, drop_more, drop_all, length-append, take_rest}
+use Rattle.std.proofs.lemmas.List.{append-nil, drop_more, drop_all, drop-drop, length-append, length-drop, take_rest}
 use Rattle.std.proofs.lemmas.Grind.{flat_map-append}
 use Rattle.std.proofs.lemmas.Option.{none-some, same_Some}
 use Rattle.native_format.specs.declared.nibbles.SlotRef.{SlotRef}
 use Rattle.native_format.specs.declared.nibbles.ListRefusal.{ListRefusal}
 use Rattle.native_format.specs.Nibbles.{nibbles, numbers, numbers_between, numbers_after_slot, numbers_of, Precedes, AscendFrom, IsSlotList}
 use Rattle.native_format.specs.Nibbles.{FitsWords, BeginsWithList, fits_words, with_first, at_slot, slots_behind, slots_of, list_at}
-use Rattle.native_format.specs.Nibbles.{GivesList, groups, list_bytes}
-use Rattle.native_format.specs.NibbleSteps.{IsLost, ReadsSlot, numbers_from}
-use Rattle.native_format.proofs.NibbleLaws.{group_one, nibbles-append, nibbles-drop, nibbles_packed, numbers_written, written_are}
+use Rattle.native_format.specs.Nibbles.{GivesList, groups, list_bytes, list_nibbles, numbers_len}
+use Rattle.native_format.specs.NibbleSteps.{GivesNext, IsLost, ReadsSlot, Unread, list_end, nibble_after, numbers_for, numbers_from}
+use Rattle.native_format.specs.NibbleSteps.{numbers_left, slots_from}
+use Rattle.native_format.proofs.NibbleLaws.{after_both, group_one, length-nibbles, nibbles-append, nibbles-drop, nibbles_packed}
+use Rattle.native_format.proofs.NibbleLaws.{numbers_written, written_are}
 
 abbrev Slots : Type 0
 Slots = List SlotRef
@@ -229,10 +231,85 @@ pub ends_here : (last : SlotRef) (ns : List ℕ) → slots_behind last (0 ∷ 0 
 unfolding slots_behind
 ends_here last ns = refl
 
-pub reads : (bytes : List ℕ) (list : Option Slots) (start at : ℕ) (slot : SlotRef) → start < at → at ≤ 2 * length bytes → FitsWords slot
-    → list ≡ with_first slot (slots_behind slot (numbers_from bytes at)) → ReadsSlot bytes list start slot at
-reads bytes list start at slot further within fit is =
-    record { further = further; within = within; list_is = is ∙ first_is slot (slots_behind slot (numbers_from bytes at)) fit }
+pub reads : (bytes : List ℕ) (list : Option Slots) (last : Option SlotRef) (start at n : ℕ) (slot : SlotRef) → start < at
+    → at ≤ 2 * length bytes → FitsWords slot → list ≡ with_first slot (slots_behind slot (numbers_from bytes at))
+    → numbers_for last slot ≡ n → at ≡ nibble_after n bytes start → ReadsSlot bytes list last start slot at
+reads bytes list last start at n slot further within fit is count after =
+    record {
+      further = further;
+      within = within;
+      list_is = is ∙ first_is slot (slots_behind slot (numbers_from bytes at)) fit;
+      after_is = after ∙ ap (λ k. nibble_after k bytes start) (sym count);
+    }
+
+pub one_number : (last : SlotRef) (slot : ℕ) → numbers_for (Some last) (at_slot last.section slot) ≡ 1
+one_number last slot = rw (eq-eqb last.section last.section refl) refl
+
+pub three_numbers : (last : SlotRef) (d slot : ℕ) → 0 < d → numbers_for (Some last) (at_slot (last.section + d) slot) ≡ 3
+three_numbers last d slot some = rw (ne_eqb (last.section + d) last.section (λ e. omega (arith, e))) refl
+
+-- ---- where a list ends
+
+left_after : (last : SlotRef) (list : Slots) → numbers_left (Some last) list ≡ length (numbers_after_slot last list)
+unfolding numbers_after_slot
+left_after last [] = refl
+left_after last (r ∷ rs) = omega (arith, left_after r rs, length-append (numbers_between last r) (numbers_after_slot r rs))
+
+left_all : (r : SlotRef) (rs : Slots) → numbers_left None (r ∷ rs) ≡ length (numbers_of (r ∷ rs))
+unfolding numbers_of
+left_all r rs = omega (arith, left_after r rs)
+
+pub begins : (bytes : List ℕ) (at : ℕ)
+    → list_end (record { last = None; stream = drop (2 * at) (nibbles bytes); place = 2 * at; reached = 2 * at }) ≡ option_map
+    (λ n. 2 * at + n) (list_nibbles bytes at)
+begins bytes at =
+    let ends : List ℕ → Option ℕ =
+    λ ns. option_map (λ (list : Slots). 2 * at + numbers_len (numbers_left None list) ns) (slots_of (numbers ns)) in
+    ap ends (nibbles-drop at bytes) ∙ go (list_at bytes at) refl where
+      go : (o : Option Slots) → list_at bytes at ≡ o
+          → option_map (λ (list : Slots). 2 * at + numbers_len (numbers_left None list) (nibbles (drop at bytes))) o ≡ option_map
+          (λ n. 2 * at + n) (option_map (λ (list : Slots). numbers_len (length (numbers_of list)) (nibbles (drop at bytes))) o)
+      go None is = refl
+      go (Some []) is = absurd (BeginsWithList.ascending (read_list (drop at bytes) [] is))
+      go (Some (r ∷ rs)) is = ap (λ k. Some (2 * at + numbers_len k (nibbles (drop at bytes)))) (left_all r rs)
+
+-- the reader before and after a slot
+abbrev pub at_nibble : List ℕ → Option SlotRef → ℕ → ℕ → Unread
+at_nibble bytes last place reached = record { last = last; stream = drop place (nibbles bytes); place = place; reached = reached }
+
+ends_alike : (bytes : List ℕ) (last : Option SlotRef) (place after : ℕ) (slot : SlotRef) (old new : Option Slots)
+    → after ≡ nibble_after (numbers_for last slot) bytes place → old ≡ option_map (λ slots. slot ∷ slots) new
+    → option_map (λ slots. nibble_after (numbers_left (Some slot) slots) bytes after) new ≡ option_map
+    (λ slots. nibble_after (numbers_left last slots) bytes place) old
+ends_alike bytes last place after slot old None there first = rw first refl
+ends_alike bytes last place after slot old (Some slots) there first =
+    rw first
+    (ap (λ n. Some n)
+    (after_both bytes place after (nibble_after (numbers_left (Some slot) slots) bytes after) (numbers_for last slot)
+    (numbers_left (Some slot) slots) there refl))
+
+pub gives_next : (bytes : List ℕ) (last : Option SlotRef) (place reached after : ℕ) (slot : SlotRef)
+    → ReadsSlot bytes (slots_from last (numbers_from bytes place)) last place slot after
+    → GivesNext slot (at_nibble bytes last place reached) (at_nibble bytes (Some slot) after after)
+gives_next bytes last place reached after slot read =
+    let n = numbers_len (numbers_for last slot) (drop place (nibbles bytes)) in
+    record {
+      first = read.list_is;
+      further = ap (λ a. at_nibble bytes (Some slot) a a) read.after_is
+          ∙ ap (λ (s : List ℕ). record { last = Some slot; stream = s; place = place + n; reached = place + n })
+          (sym (drop-drop n place (nibbles bytes)));
+      fewer =
+          omega (
+            arith,
+            read.further,
+            read.within,
+            length-nibbles bytes,
+            length-drop after (nibbles bytes),
+            length-drop place (nibbles bytes),
+          );
+      same_end = ends_alike bytes last place after slot (slots_from last (numbers_from bytes place))
+          (slots_behind slot (numbers_from bytes after)) read.after_is read.list_is;
+    }
 
 -- the list from a place on, by its nibbles
 pub list_from_nibble : (bytes : List ℕ) (at : ℕ) → slots_of (numbers_from bytes (2 * at)) ≡ list_at bytes at

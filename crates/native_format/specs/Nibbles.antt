@@ -1,5 +1,6 @@
 -- Lists of import slots, as streams of nibbles (ReadyToRun File Format, "Fixups").
-use Rattle.std.specs.Prelude.{◌≡◌, ℕ, zero, suc, ◌+◌, ◌*◌, ◌-◌, ◌/◌, ◌%◌, ◌^◌, ◌<◌, ◌⊎◌, ◌==◌, ◌&&◌, Bool, List, [], ◌∷◌, ◌++◌, map, drop}
+use Rattle.std.specs.Prelude.{◌≡◌, ℕ, zero, suc, ◌+◌, ◌*◌, ◌-◌, ◌/◌, ◌%◌, ◌^◌, ◌<◌, ◌⊎◌, ◌==◌, ◌&&◌, Bool}
+use Rattle.std.specs.Prelude.{List, [], ◌∷◌, ◌++◌, map, drop, length}
 use Rattle.std.specs.Prelude.{Option, Some, None, Result, Ok, Err, nat_lt, if◌then◌else◌}
 use Rattle.std.specs.List.{flat_map}
 use Rattle.std.specs.Option.{option_map}
@@ -22,6 +23,12 @@ numbers_after high (n ∷ ns) = if nat_lt n 8 then (8 * high + n) ∷ numbers_af
 
 abbrev pub numbers : List ℕ → List ℕ
 numbers ns = numbers_after 0 ns
+
+-- How many nibbles the first k numbers of a stream have: those up to the k-th that has no bit 3.
+unfoldable pub numbers_len : ℕ → List ℕ → ℕ
+numbers_len zero ns = 0
+numbers_len (suc k) [] = 0
+numbers_len (suc k) (n ∷ ns) = 1 + numbers_len (if nat_lt n 8 then k else suc k) ns
 
 -- The numbers between a slot and the next: in one section how far the next slot is above the last one;
 -- else 0, how far the next section is above the last one, and its first slot.
@@ -90,6 +97,10 @@ slots_of (section ∷ slot ∷ ns) = with_first (at_slot section slot) (slots_be
 -- the list at a place; none where it is cut, or a number or a sum passes 32 bits
 abbrev pub list_at : List ℕ → ℕ → Option (List SlotRef)
 list_at bytes at = slots_of (numbers (nibbles (drop at bytes)))
+
+-- how many nibbles the list at a place has, the two zeros of its end and all leading zero groups too
+abbrev pub list_nibbles : List ℕ → ℕ → Option ℕ
+list_nibbles bytes at = option_map (λ list. numbers_len (length (numbers_of list)) (nibbles (drop at bytes))) (list_at bytes at)
 
 -- what a reader answered is the list that is there, or that there is none, unless memory ran out
 abbrev pub Refuses : ListRefusal → Option (List SlotRef) → Type 0

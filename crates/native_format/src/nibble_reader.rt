@@ -1,10 +1,11 @@
 //! The readers of nibble lists: slot by slot, and a whole list.
 
-ghost use Rattle.std.specs.Prelude.{◌≡◌, ◌≤◌, ◌<◌, ◌^◌, ◌*◌, ◌-◌, List, Some, slice_index, drop, length, IfOk, MatchOption};
+ghost use Rattle.std.specs.Prelude.{◌≡◌, ◌≤◌, ◌<◌, ◌^◌, ◌+◌, ◌*◌, List, None, Some, slice_index, drop, length, IfOk, MatchOption};
+ghost use Rattle.std.specs.Option.{option_map};
 ghost use Rattle.std.specs.List.{AllByRecursion};
 ghost use Rattle.native_format.specs.declared.nibbles.SlotRef.{SlotRef as Slot};
-ghost use Rattle.native_format.specs.Nibbles.{BeginsWithList, FitsWords, GivesList, list_at, nibbles, slots_behind, slots_of};
-ghost use Rattle.native_format.specs.NibbleSteps.{GivesSlot, IsLost, ReadsNext, ReadsNumber, Unread, numbers_from, slots_from};
+ghost use Rattle.native_format.specs.Nibbles.{BeginsWithList, FitsWords, GivesList, list_at, list_nibbles, nibbles, slots_behind, slots_of};
+ghost use Rattle.native_format.specs.NibbleSteps.{GivesSlot, IsLost, ReadsNext, ReadsNumber, Unread, left, list_end, numbers_from, slots_from};
 
 use crate::nibbles::{ListRefusal, MalformedList, Next, SlotRef};
 use std::alloc::Global;
@@ -44,7 +45,7 @@ fn number_at(bytes: &[u8], start: usize) -> Option<(u32, usize)>
 /// The first slot of a list that begins at a nibble.
 fn first_slot(bytes: &[u8], start: usize) -> Option<Next>
     requires { length bytes.now ≤ 2 ^ 31 }
-    ensures { ReadsNext bytes.now (slots_of (numbers_from bytes.now start)) start result }
+    ensures { ReadsNext bytes.now (slots_of (numbers_from bytes.now start)) None start result }
 {
     let (section, at) = number_at(bytes, start)?;
     let (slot, at) = number_at(bytes, at)?;
@@ -54,7 +55,7 @@ fn first_slot(bytes: &[u8], start: usize) -> Option<Next>
 /// What follows a slot of a list, from a nibble on.
 fn next_slot(bytes: &[u8], start: usize, last: SlotRef) -> Option<Next>
     requires { length bytes.now ≤ 2 ^ 31 }
-    ensures { ReadsNext bytes.now (slots_behind last (numbers_from bytes.now start)) start result }
+    ensures { ReadsNext bytes.now (slots_behind last (numbers_from bytes.now start)) (Some last) start result }
 {
     let (distance, at) = number_at(bytes, start)?;
     if distance > 0 {
@@ -71,7 +72,19 @@ fn next_slot(bytes: &[u8], start: usize, last: SlotRef) -> Option<Next>
     Some(Next::Slot(SlotRef { section, slot }, at))
 }
 
-/// The slots of a list, one by one. It takes no memory. Contracts see the list that is left, and how many nibbles are.
+/// What is next after the last slot of a list, or where it begins, from a nibble on.
+fn read_next(bytes: &[u8], start: usize, last: Option<SlotRef>) -> Option<Next>
+    requires { length bytes.now ≤ 2 ^ 31 }
+    ensures { ReadsNext bytes.now (slots_from last (numbers_from bytes.now start)) last start result }
+{
+    match last {
+        Some(last) => next_slot(bytes, start, last),
+        None => first_slot(bytes, start),
+    }
+}
+
+/// The slots of a list, one by one. It takes no memory. Contracts see the slot that was read last, the nibbles that are left and
+/// the number of the first of them, and how far it has read.
 #[derive(Debug, Drop)]
 pub struct SlotReader<'a> {
     bytes: &'a [u8],
@@ -86,16 +99,18 @@ pub struct SlotReader<'a> {
 impl<'a> Model for SlotReader<'a> {
     ghost Value = { Unread };
 
-    ghost view = { λ r. record { list = slots_from r.last (numbers_from r.bytes.now r.place); nibbles = 2 * length r.bytes.now - r.place } };
+    ghost view = { λ r. record { last = r.last; stream = drop r.place (nibbles r.bytes.now); place = r.place; reached = r.reached } };
 
-    ghost invariant = { λ r. length r.bytes.now ≤ 2 ^ 31 };
+    ghost invariant = { λ r. (length r.bytes.now ≤ 2 ^ 31) × (r.reached + 1 < 2 ^ 33) };
 }
 
 impl<'a> SlotReader<'a> {
     /// Begins to read the list whose nibbles begin at a file offset, which may be after the end.
     pub fn new(bytes: &'a [u8], at: u32) -> SlotReader<'a>
         requires { length bytes.now ≤ 2 ^ 31 }
-        ensures { result.list ≡ list_at bytes.now at }
+        ensures start { result ≡ record { last = None; stream = drop (2 * at) (nibbles bytes.now); place = 2 * at; reached = 2 * at } }
+        ensures list { left result ≡ list_at bytes.now at }
+        ensures end { list_end result ≡ option_map (λ n. 2 * at + n) (list_nibbles bytes.now at) }
     {
         SlotReader {
             bytes,
@@ -106,15 +121,11 @@ impl<'a> SlotReader<'a> {
     }
 
     /// The next slot, `None` at the list's end. Numbers with leading zero groups are read too.
-    /// `Err` where the stream is cut, or a number or a sum passes 32 bits. Both leave the reader as it was.
+    /// `Err` where the stream is cut, or a number or a sum passes 32 bits. Both leave the slots that are left as they were.
     pub fn next_slot(&mut self) -> Result<Option<SlotRef>, MalformedList>
         ensures { GivesSlot result self.old self.new }
     {
-        let next = match self.last {
-            Some(last) => next_slot(self.bytes, self.place, last),
-            None => first_slot(self.bytes, self.place),
-        };
-        match next {
+        match read_next(self.bytes, self.place, self.last) {
             Some(Next::Slot(slot, after)) => {
                 self.last = Some(slot);
                 self.place = after;
@@ -130,9 +141,12 @@ impl<'a> SlotReader<'a> {
     }
 
     /// The number of the nibble after all that were read, counted from the first of the bytes: after a slot that after the
-    /// slot, and after the list's end that after the two zeros of the end, which may have leading zero groups. It says how
-    /// much was read, and no clause depends on it.
-    pub fn reached(&self) -> usize {
+    /// slot, and after the list's end that after the two zeros of the end, which may have leading zero groups.
+    pub fn reached(&self) -> usize
+        ensures place { result ≡ self.now.reached }
+        // A place has 32 bits, and a byte has two nibbles.
+        ensures few { result + 1 < 2 ^ 33 }
+    {
         self.reached
     }
 }

@@ -27,6 +27,10 @@ module _ (by : List ℕ → List ℕ → List Refusal) where
 
 -- ---- names behind references, and files in vectors
 
+-- what a list of names answers where it ends
+abbrev pub no_name : Bor (List ℕ)
+no_name = record { ref_ptr = (0, 0); now = [] }
+
 pub texts_long : (names : List (Bor (List ℕ))) → length (texts names) ≡ length names
 texts_long names = length-map names (λ (name : Bor (List ℕ)). name.now)
 
@@ -47,3 +51,14 @@ next_of by names files i dn d bytes hn hf is =
     next by (texts names) files i [] d there hf
     ∙ ap (λ (n : List ℕ). by n (get_or files i d) ++ left by (texts names) files (i + 1)) name
     ∙ ap (λ (b : List ℕ). by (get_or names i dn).now b ++ left by (texts names) files (i + 1)) (sym is)
+
+-- the file at a place of a loop: its bytes, and what refuses it
+module _ (by : List ℕ → List ℕ → List Refusal) (names : List (Bor (List ℕ))) (all : List (Vec ℕ Global)) (i : ℕ) (one : Vec ℕ Global)
+    (bytes : List ℕ) (h : i < length all) (each : length names ≡ length all) (is : one ≡ get_or all i one) (same : bytes ≡ one.items) where
+  pub bytes_at : bytes ≡ get_or (map vec_items all) i []
+  bytes_at = same ∙ items_at all i one h is
+
+  pub left_at : left by (texts names) (map vec_items all) i
+      ≡ by (get_or names i no_name).now bytes ++ left by (texts names) (map vec_items all) (i + 1)
+  left_at =
+      next_of by names (map vec_items all) i no_name [] bytes (omega (arith, h, each)) (omega (arith, h, items_long all)) bytes_at

@@ -1,5 +1,5 @@
 -- There are at most 16 workers.
-use Rattle.std.proofs.Common.{◌≡◌, ℕ, suc, ◌<◌, ◌≤◌, ℤ, List, [], ◌∷◌, length, map, Vec, vec_items, Bool, true, false}
+use Rattle.std.proofs.Common.{◌≡◌, ℕ, suc, ◌≤◌, ℤ, List, [], ◌∷◌, length, map, Vec, vec_items, Bool, true, false}
 use Rattle.std.proofs.Common.{Option, Some, None, IsSome, option_and_then, option_map, Result, Ok, Err, IfOk}
 use Rattle.std.proofs.Common.{refl, sym, ap, ◌∙◌, arith, leb-true}
 use Rattle.std.proofs.lemmas.List.{length-map}

@@ -1,5 +1,5 @@
 -- The first of some refusals.
-use Rattle.std.proofs.Common.{◌≡◌, List, [], ◌∷◌, ◌++◌, Option, Some, None, Result, Ok, Err, refl, sym, ap}
+use Rattle.std.proofs.Common.{◌≡◌, List, [], ◌∷◌, ◌++◌, Option, Some, None, Ok, Err, refl, sym, ap}
 use Rattle.r2r.specs.declared.refusals.Stop.{Stop}
 use Rattle.r2r.specs.declared.refusals.Stop.TheVariants as stops
 use Rattle.r2r.specs.Refusals.{Refusal, meaning}

@@ -5,7 +5,7 @@ use Rattle.std.proofs.lemmas.List.{take_more}
 use Rattle.std.proofs.lemmas.List.Concat.{flat_map-append}
 use Rattle.std.specs.List.{flat_map}
 use Rattle.std.specs.Option.{option_map}
-use Rattle.rtr_outside.specs.Sink.{Appends, Rose}
+use Rattle.rtr_outside.specs.Sink.{Appends}
 use Rattle.rtr_outside.specs.declared.sink.SinkFailed.{SinkFailed}
 use Rattle.r2r.specs.Outside.{CutsShort}
 use Rattle.r2r.specs.Printing.{IsWritten}

@@ -6,7 +6,7 @@ use Rattle.r2r.specs.RunWords.{Run}
 use Rattle.r2r.specs.Refusals.{Refusal}
 use Rattle.r2r.specs.Command.{Run as Running}
 use Rattle.r2r.specs.Reading.{AllRead}
-use Rattle.r2r.specs.RunRefusals.{file_refusals, run_refusals, start_refusals}
+use Rattle.r2r.specs.RunRefusals.{file_refusals, start_refusals}
 use Rattle.r2r.specs.Ending.{malformed, refusals}
 use Rattle.r2r.specs.Loaded.{IsUnlessRefused}
 use Rattle.r2r.proofs.Firsts.{ends_after, stops_after, stops_in_front}

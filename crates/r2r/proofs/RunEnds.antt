@@ -2,11 +2,11 @@
 use Rattle.std.proofs.Common.{◌≡◌, ℕ, List, [], ◌∷◌, ◌++◌, Option, Some, inl, inr, refl, sym, ap, subst, ◌∙◌, append-nil}
 use Rattle.rtr_outside.specs.Files.{Contents, Call}
 use Rattle.r2r.specs.Command.{Command, Run, inputs}
-use Rattle.r2r.specs.Outside.{Outside, seen, written_of, faults_of}
+use Rattle.r2r.specs.Outside.{seen}
 use Rattle.r2r.specs.Reading.{AllRead, ComesTo}
 use Rattle.r2r.specs.Refusals.{Refusal, TooMany, ReadFailed, TooLong, Malformed, DuplicateName, NotIlOnly, NoEntry, BadArguments}
 use Rattle.r2r.specs.Refusals.{failed_calls}
-use Rattle.r2r.specs.Ending.{Reply, Refuses, Answers, IsAnswer, Ends, FindsNoMemory, PrintsIfMemory, calls_of, conditions, malformed, refusals}
+use Rattle.r2r.specs.Ending.{Refuses, Answers, IsAnswer, Ends, FindsNoMemory, PrintsIfMemory, calls_of, conditions, malformed, refusals}
 use Rattle.r2r.specs.Loaded.{first_of}
 use Rattle.r2r.specs.RunWords.{Run as Asked}
 use Rattle.r2r.specs.Running.{IsRunText}

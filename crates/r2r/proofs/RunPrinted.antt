@@ -1,6 +1,8 @@
 -- What a run prints, once its workers have run.
-use Rattle.std.proofs.Common.{◌≡◌, ℕ, List, ◌++◌, length, take, drop, take_all, arith, All, Bool, cond, map, Option, inl, inr, refl, sym, ap, subst, ◌∙◌}
-use Rattle.std.proofs.lemmas.List.{take-append-le}
+use Rattle.std.proofs.Common.{◌≡◌, ℕ, List, ◌++◌, length, take, drop, take_all, arith, All, Bool, cond, map, Option, Vec}
+use Rattle.std.proofs.Common.{inl, inr, refl, sym, ap, subst, ◌∙◌}
+use Rattle.std.proofs.lemmas.List.{length-map, take-append-le}
+use Rattle.std.specs.Global.{Global}
 use Rattle.std.specs.List.{list_all}
 use Rattle.rtr_outside.specs.Sink.{Appends}
 use Rattle.type_world.specs.Loading.{world_of}
@@ -17,9 +19,16 @@ use Rattle.r2r.proofs.Starts.{all_ready}
 use Rattle.r2r.proofs.States.{Came, came}
 
 -- a vector whose elements were written through a slice of them all
-pub written_back : {X : Type 0} (len : ℕ) (new old : List X) → length new ≡ len → take len (new ++ drop (length new) old) ≡ new
+written_back : {X : Type 0} (len : ℕ) (new old : List X) → length new ≡ len → take len (new ++ drop (length new) old) ≡ new
 written_back len new old same =
     take-append-le len new (drop (length new) old) (omega (arith, same)) ∙ take_all len new (omega (arith, same))
+
+-- a vector whose elements were changed one by one
+pub all_written : {X : Type 0} (f : X → X) (vec : Vec X Global) (before new after : List X) → before ≡ vec.items → new ≡ map f before
+    → after ≡ take vec.len (new ++ drop (length new) vec.items) → after ≡ map f vec.items
+all_written f vec before new after is changed back =
+    let long : length new ≡ length vec.items = ap length changed ∙ length-map before f ∙ ap length is in
+    back ∙ written_back vec.len new vec.items (omega (arith, long, vec.ok.0)) ∙ changed ∙ ap (map f) is
 
 module _ (run : Run) (files : List (List ℕ)) (ready : Ready) (is : IsReadyRun run files ready) where
   abbrev W : World
@@ -27,7 +36,8 @@ module _ (run : Run) (files : List (List ℕ)) (ready : Ready) (is : IsReadyRun 
 
   -- each worker is ready to run
   pub each_ready : All (IsReady W) ready.workers.items
-  each_ready = subst (λ (ws : List WorkerState). All (IsReady W) ws) (sym is.workers) (all_ready W is.entry run.ticks 0 run.workers is.starts)
+  each_ready =
+      subst (λ (ws : List WorkerState). All (IsReady W) ws) (sym is.workers) (all_ready W is.entry run.ticks 0 run.workers is.starts)
 
   module _ (law : RunsEnd) where
     whole : Came law W is.entry run.ticks (result_of W is.entry) 0 run.workers

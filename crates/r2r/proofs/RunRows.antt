@@ -38,5 +38,6 @@ least = refl
 each_returned : status_of_runs (record { output = []; ending = endings.Return 1 } ∷ []) ≡ 0
 each_returned = refl
 
-one_did_not : status_of_runs (record { output = []; ending = endings.Return 1 } ∷ record { output = []; ending = endings.OutOfTicks } ∷ []) ≡ 6
+one_did_not :
+    status_of_runs (record { output = []; ending = endings.Return 1 } ∷ record { output = []; ending = endings.OutOfTicks } ∷ []) ≡ 6
 one_did_not = refl

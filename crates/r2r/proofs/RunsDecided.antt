@@ -1,5 +1,6 @@
 -- What refuses a run is no failed read, and the status of its text is 0 or 6.
-use Rattle.std.proofs.Common.{◌≡◌, ℕ, ◌+◌, ℤ, List, [], ◌∷◌, ◌++◌, ◌⊎◌, inl, inr, Bool, true, false, cond, Option, Some, None, refl, sym, subst}
+use Rattle.std.proofs.Common.{◌≡◌, ℕ, ◌+◌, ℤ, List, [], ◌∷◌, ◌++◌, ◌⊎◌, inl, inr, Bool, true, false, cond, Option, Some}
+use Rattle.std.proofs.Common.{None, refl, sym, subst}
 use Rattle.std.specs.List.{list_all}
 use Rattle.type_world.specs.declared.identity.MethodId.{MethodId}
 use Rattle.type_world.specs.World.{World, first_duplicate}
@@ -7,7 +8,7 @@ use Rattle.type_world.specs.Entries.{can_start}
 use Rattle.type_world.specs.Loading.{world_of}
 use Rattle.cli_assembly.specs.Assemblies.{assembly_of}
 use Rattle.r2r.specs.RunWords.{Run}
-use Rattle.r2r.specs.Refusals.{Refusal, ReadFailed, DuplicateName, NotIlOnly, BadArguments}
+use Rattle.r2r.specs.Refusals.{Refusal, ReadFailed, NotIlOnly, BadArguments}
 use Rattle.r2r.specs.RunRefusals.{bad_arguments, bad_arguments_by, duplicate_names, entry_in, file_refusals, is_il_only, not_il_only}
 use Rattle.r2r.specs.RunRefusals.{not_il_only_by, not_started, run_refusals, start_refusals}
 use Rattle.r2r.specs.Running.{IsRunText, is_return}

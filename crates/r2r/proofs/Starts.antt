@@ -1,6 +1,6 @@
 -- The workers of a run: which of them the entry can be started for, and how they are made.
 use Rattle.std.proofs.Common.{◌≡◌, ℕ, zero, suc, ◌+◌, ◌<◌, ◌≤◌, ℤ, List, [], ◌∷◌, ◌++◌, length, take, drop, get_or, Bool, true, false, cond}
-use Rattle.std.proofs.Common.{All, Some, refl, sym, ap, subst, ◌∙◌, arith}
+use Rattle.std.proofs.Common.{All, Some, refl, sym, ap, ◌∙◌, arith}
 use Rattle.std.proofs.lemmas.List.{drop_all, drop_more}
 use Rattle.type_world.specs.declared.identity.MethodId.{MethodId}
 use Rattle.type_world.specs.World.{World}

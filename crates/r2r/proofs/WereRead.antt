@@ -1,5 +1,5 @@
 -- What is known of files that were read.
-use Rattle.std.proofs.Common.{◌≡◌, ℕ, zero, suc, ◌<◌, ◌≤◌, ◌^◌, List, [], ◌∷◌, length, map, Vec, vec_items, All, Option, refl, ap, arith}
+use Rattle.std.proofs.Common.{◌≡◌, ℕ, zero, suc, ◌≤◌, ◌^◌, List, [], ◌∷◌, length, map, Vec, vec_items, All, Option, refl, ap, arith}
 use Rattle.std.specs.Global.{Global}
 use Rattle.rtr_outside.specs.Files.{Contents}
 use Rattle.r2r.specs.Reading.{AreRead}

@@ -9,7 +9,8 @@ use Rattle.r2r.specs.Outside.{Outside, written_of, faults_of, CutsShort, PrintsT
 use Rattle.r2r.specs.Reading.{Reading, OverMost, Failed, OverLimit, AllRead, ComesTo}
 use Rattle.r2r.specs.RunRefusals.{run_refusals}
 use Rattle.r2r.specs.Running.{IsRunText}
-use Rattle.r2r.specs.Refusals.{Refusal, of_each, TooMany, ReadFailed, TooLong, Malformed, status_of, line_of, failed_calls, write_failed_line}
+use Rattle.r2r.specs.Refusals.{Refusal, of_each, TooMany, ReadFailed, TooLong, Malformed, status_of, line_of}
+use Rattle.r2r.specs.Refusals.{failed_calls, write_failed_line}
 
 -- ---- what refuses a command
 

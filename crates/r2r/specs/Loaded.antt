@@ -1,5 +1,5 @@
 -- How the functions that check and load the files of a run answer.
-use Rattle.std.specs.Prelude.{◌≡◌, ℕ, ◌+◌, ℤ, List, [], ◌∷◌, ◌++◌, Option, Some, None, Result, Ok, Err}
+use Rattle.std.specs.Prelude.{◌≡◌, ℕ, ◌+◌, ℤ, List, [], ◌∷◌, Option, Some, None, Result, Ok, Err}
 use Rattle.type_world.specs.declared.identity.MethodId.{MethodId}
 use Rattle.rtr_runner.specs.Workers.{WorkerState, new_worker}
 use Rattle.r2r.specs.declared.refusals.Stop.{Stop}

@@ -1,5 +1,5 @@
 -- What a run prints, and the status that goes with it: each worker's lines and ending are those of the run of its CIL.
-use Rattle.std.specs.Prelude.{◌≡◌, ℕ, ℤ, Bool, true, false, List, [], map, Option, Some, if◌then◌else◌}
+use Rattle.std.specs.Prelude.{◌≡◌, ℕ, ℤ, Bool, true, false, List, map, Option, Some, if◌then◌else◌}
 use Rattle.std.specs.List.{list_all}
 use Rattle.std.specs.Option.{option_map_or}
 use Rattle.cli_assembly.specs.declared.signature.TypeSig.{TypeSig}

@@ -34,10 +34,14 @@ fn main(rt: HostRuntime) -> ExitCode {
 #[cfg(test)]
 mod assembly_tests;
 #[cfg(test)]
+mod drafts;
+#[cfg(test)]
+mod fixtures;
+#[cfg(test)]
+mod plans;
+#[cfg(test)]
 mod run_tests;
 #[cfg(test)]
 mod tests;
-#[cfg(test)]
-mod word_tests;
 #[cfg(test)]
 mod write_tests;

@@ -5,17 +5,15 @@ ghost use Rattle.rtr_bytes.specs.Checks.{first_fault};
 ghost use Rattle.pe_image.specs.Checks.{pe_checks};
 ghost use Rattle.pe_image.specs.Headers.{headers_of};
 
-use crate::tests::{LEAST, expect, file_of};
-use fixup_sigs::{FieldToken, Fixup, SigType};
-use native_format::SlotRef;
+use crate::fixtures::{expect, file_of};
+use crate::plans::plan_of;
+use crate::tests::LEAST;
 use pe_image::{Pe, can_write_pe, dat_rva, write_pe};
-use rtr_bytes::Sequence;
-use rtr_sections::{
-    EntryPoint, Function, Image, ImportSection, RtrHeader, RtrSection, Slot, Written,
-    can_write_rtr, write_rtr,
-};
-use std::alloc::{AllocError, Global};
+use rtr_sections::{Image, Written, can_write_rtr, write_rtr};
+use std::alloc::Global;
+use std::process::Abort;
 use std::test::Fail;
+use std::thread::Threads;
 
 /// An assembly A over the least file, which has 1,536 bytes then: 40 methods without a name, and no type.
 const ROWS: &str =
@@ -24,6 +22,10 @@ const ROWS: &str =
 @688 010000002800000001 @702 01 @1288 01 @1293 41";
 
 /// One eager section with a slot, no function and no entry.
+const SLOT: &str = "import 8 1
+slot 0 1a08";
+
+/// Its image.
 const WRITTEN: &str =
     "@0 4d5a @60 400000005045000064aa03 @84 f00022200b020e @97 02 @110 02 @115 8001 @125 020000060002 @136 060002 @146
 02000002 @156 03006081000010 @169 10 @178 10 @185 10 @196 10 @312 7d00010048 @328 2e74657874 @341 10 @349 02 @368
@@ -32,7 +34,7 @@ const WRITTEN: &str =
 670000007c000100010000006a @1622 01000800000001000008680001 @1640 7a0001007232722070726f66696c652031001a080448 @1669
 48100000cc02000004 @1725 080001004c";
 
-const WRITTEN_TEXT: &str = "file T 2048
+const WRITTEN_TEXT: &str = "0 file T 2048
 machine aa64 magic 020b
 .text rva 00001000 size 00000400 file 00000200 raw 00000400
 .r2rdat rva 00010000 size 000000c5 file 00000600 raw 00000200
@@ -49,7 +51,13 @@ slot 0 1a08
 assembly A
 ";
 
-/// No import section, and an entry whose array is the one-element array `0c 04000000 02020202 0c`.
+/// No import section, and an entry, whose array is the one-element array `0c 04000000 02020202 0c`.
+const ELEMENT: &str = "function 20000 0
+function 20000 0
+function 20000 0
+function 20000 4
+entry 1 3";
+
 const WRITTEN_ARRAY: &str =
     "@0 4d5a @60 400000005045000064aa03 @84 f00022200b020e00000200000002 @110 02 @115 8001 @125 020000060002 @136 060002
 @144 040002000002 @156 03006081000010 @169 10 @178 10 @185 10 @196 10 @312 9400010048 @328 2e74657874 @341 10 @349 02
@@ -58,7 +66,7 @@ const WRITTEN_ARRAY: &str =
 660000004c00010020000000670000008a0001000a0000006a @1614 02006c0001000000020070000100000002007400010000000200780001
 @1656 040000007232722070726f66696c652031000c04000000020202020c48 @1692 48100000cc02000004 @1750 01004c @2048 c0035fd6";
 
-const WRITTEN_ARRAY_TEXT: &str = "file T 2560
+const WRITTEN_ARRAY_TEXT: &str = "0 file T 2560
 machine aa64 magic 020b
 .text rva 00001000 size 00000400 file 00000200 raw 00000400
 .r2rdat rva 00010000 size 000000dc file 00000600 raw 00000200
@@ -75,6 +83,29 @@ assembly A
 ";
 
 /// Three import sections, the first eager; entries with and without lists, which share slots, in three blocks of the array.
+const SECTIONS: &str = "import 18 1
+import 20 0
+import 10 0
+slot 0 1a08
+slot 0 1a22
+slot 1122334455667788 1a8200
+slot 0 1b01
+slot 0 270002
+slot 0 2b101005
+slot 0 1c1205
+slot 2000c 1403
+slot 20010 17812c
+function 20000 4
+function 20004 8
+function 2000c 0
+function 2000c 4
+entry 1 0
+entry 2 1 1.0 1.2
+entry 3 3 1.0 1.3 2.1
+entry 12 2
+entry 28 1 0.2
+thunks 20010 8";
+
 const WRITTEN_WHOLE: &str =
     "@0 4d5a @60 400000005045000064aa03 @84 f00022200b020e00000200000002 @110 02 @115 8001 @125 020000060002 @136 060002
 @144 180002000002 @156 03006081000010 @169 10 @178 10 @185 10 @196 10 @312 7301010048 @328 2e74657874 @341 10 @349 02
@@ -87,7 +118,7 @@ const WRITTEN_WHOLE: &str =
 040000007232722070726f66696c652031001a081a221a82001b012700022b1010051c1205140317812c89020c0000001b0000002000000002023e16000a010200021a010311000202020c08020c0c0c0a200048
 @1915 48100000cc02000004 @1971 480001004c @2049 0102030405060708090a0b0c0d0e0f1011121314151617";
 
-const WRITTEN_WHOLE_TEXT: &str = "file T 2560
+const WRITTEN_WHOLE_TEXT: &str = "0 file T 2560
 machine aa64 magic 020b
 .text rva 00001000 size 00000400 file 00000200 raw 00000400
 .r2rdat rva 00010000 size 000001bb file 00000600 raw 00000200
@@ -118,87 +149,6 @@ entry 06000012 function 2 begin 0002000c length 0 fixups
 entry 06000028 function 1 begin 00020004 length 8 fixups 0.2
 assembly A
 ";
-
-/// A section record with a range that is not asked for.
-fn section(kind: u32) -> RtrSection {
-    RtrSection {
-        kind,
-        rva: 1,
-        size: 2,
-    }
-}
-
-/// A header with the sections that are written, of which the thunks have a range.
-fn header(alloc: Global, thunks: (u32, u32)) -> Result<RtrHeader, AllocError> {
-    let thunks = RtrSection {
-        kind: 106,
-        rva: thunks.0,
-        size: thunks.1,
-    };
-    let sections = [
-        section(100),
-        section(101),
-        section(102),
-        section(103),
-        thunks,
-    ];
-    Ok(RtrHeader {
-        at: 0,
-        major: 5,
-        minor: 0,
-        flags: 0,
-        sections: Sequence::from_vec(sections.to_vec(alloc)?),
-    })
-}
-
-/// An import section of some bytes of cells.
-fn import(size: u32, flags: u16) -> ImportSection {
-    ImportSection {
-        rva: 3,
-        size,
-        flags,
-        kind: 0,
-        entry_size: 8,
-        signatures: 4,
-        auxiliary: 0,
-    }
-}
-
-fn slot(fixup: Fixup, word: u64) -> Slot {
-    Slot { fixup, word }
-}
-
-fn entry(
-    alloc: Global,
-    row: u32,
-    function: u32,
-    slots: &[(u32, u32)],
-) -> Result<EntryPoint, AllocError> {
-    let mut fixups = Vec::new(alloc);
-    for (section, slot) in slots {
-        fixups.push(SlotRef {
-            section: *section,
-            slot: *slot,
-        })?;
-    }
-    Ok(EntryPoint {
-        row,
-        function,
-        fixups: Sequence::from_vec(fixups),
-    })
-}
-
-/// The functions that begin at some RVAs and have some lengths.
-fn functions(alloc: Global, ranges: &[(u32, u32)]) -> Result<Sequence<Function>, AllocError> {
-    let mut functions = Vec::new(alloc);
-    for (begin, length) in ranges {
-        functions.push(Function {
-            begin: *begin,
-            length: *length,
-        })?;
-    }
-    Ok(Sequence::from_vec(functions))
-}
 
 /// What `.r2rdat` has: the part, and after it the input's CLI header, for an image that isn't of CIL alone, with the
 /// part's header.
@@ -254,105 +204,41 @@ fn image(alloc: Global, plan: &Image, cod: &[u8]) -> Result<Vec<u8>, Fail> {
     }
 }
 
-#[test]
-fn one_slot(rt: HostRuntime) -> Result<(), Fail> {
-    let alloc = rt.alloc();
-    let helper = slot(Fixup::Helper { number: 8 }, 0);
-    let plan = Image {
-        header: header(alloc, (0, 0))?,
-        imports: Sequence::from_vec([import(8, 1)].to_vec(alloc)?),
-        slots: Sequence::from_vec([helper].to_vec(alloc)?),
-        functions: functions(alloc, &[])?,
-        entries: Sequence::from_vec(Vec::new(alloc)),
-        own: true,
-    };
-    let out = image(alloc, &plan, &[])?;
-    assert_eq!(rt;
-        out.as_slice(),
-        file_of(alloc, 2048, &[ROWS, WRITTEN])?.as_slice()
-    );
-    expect(&rt, alloc, "dump T", out, 0, WRITTEN_TEXT)
+/// Writes a plan and some code, and expects the file's length, its bytes beside the assembly's rows, and its dump.
+fn expect_written<R: Threads + Sync + Abort>(
+    rt: &R,
+    alloc: Global,
+    plan: &str,
+    code: &str,
+    written: (usize, &str),
+    text: &str,
+) -> Result<(), Fail> {
+    let plan = plan_of(alloc, plan)?;
+    let out = image(alloc, &plan, &hex::decode(alloc, code)?)?;
+    let file = file_of(alloc, written.0, &[ROWS, written.1])?;
+    assert_eq!(rt; out.as_slice(), file.as_slice());
+    expect(rt, alloc, "dump T", out, text)
 }
 
 #[test]
-fn one_element(rt: HostRuntime) -> Result<(), Fail> {
+fn plans_are_written(rt: HostRuntime) -> Result<(), Fail> {
     let alloc = rt.alloc();
-    let mut entries = Vec::new(alloc);
-    entries.push(entry(alloc, 1, 3, &[])?)?;
-    let code = 0x20000;
-    let plan = Image {
-        header: header(alloc, (0, 0))?,
-        imports: Sequence::from_vec(Vec::new(alloc)),
-        slots: Sequence::from_vec(Vec::new(alloc)),
-        functions: functions(alloc, &[(code, 0), (code, 0), (code, 0), (code, 4)])?,
-        entries: Sequence::from_vec(entries),
-        own: true,
-    };
-    let out = image(alloc, &plan, &[0xC0, 0x03, 0x5F, 0xD6])?;
-    let array = [0x0C, 4, 0, 0, 0, 2, 2, 2, 2, 0x0C].as_slice();
-    assert_eq!(rt; out.get(1674..1684), Some(array));
-    assert_eq!(rt;
-        out.as_slice(),
-        file_of(alloc, 2560, &[ROWS, WRITTEN_ARRAY])?.as_slice()
-    );
-    expect(&rt, alloc, "dump T", out, 0, WRITTEN_ARRAY_TEXT)
-}
-
-/// The slots of three sections: three, four and two.
-fn slots(alloc: Global) -> Result<Sequence<Slot>, AllocError> {
-    let second = FieldToken {
-        member_ref: false,
-        row: 2,
-    };
-    let field = FieldToken {
-        member_ref: true,
-        row: 5,
-    };
-    let slots = [
-        slot(Fixup::Helper { number: 8 }, 0),
-        slot(Fixup::Helper { number: 0x22 }, 0),
-        slot(Fixup::Helper { number: 0x200 }, 0x1122_3344_5566_7788),
-        slot(Fixup::StringHandle { at: 1 }, 0),
-        slot(Fixup::FieldOffset { field: second }, 0),
-        slot(Fixup::CheckFieldOffset { offset: 16, field }, 0),
-        slot(
-            Fixup::NewObject {
-                of: SigType::Class(5),
-            },
-            0,
-        ),
-        slot(Fixup::MethodEntryDefToken { row: 3 }, 0x2000C),
-        slot(Fixup::VirtualEntryDefToken { row: 300 }, 0x20010),
-    ];
-    Ok(Sequence::from_vec(slots.to_vec(alloc)?))
-}
-
-#[test]
-fn three_sections(rt: HostRuntime) -> Result<(), Fail> {
-    let alloc = rt.alloc();
-    let mut entries = Vec::new(alloc);
-    entries.push(entry(alloc, 1, 0, &[])?)?;
-    entries.push(entry(alloc, 2, 1, &[(1, 0), (1, 2)])?)?;
-    entries.push(entry(alloc, 3, 3, &[(1, 0), (1, 3), (2, 1)])?)?;
-    entries.push(entry(alloc, 18, 2, &[])?)?;
-    entries.push(entry(alloc, 40, 1, &[(0, 2)])?)?;
-    let ranges = [(0x20000, 4), (0x20004, 8), (0x2000C, 0), (0x2000C, 4)];
-    let plan = Image {
-        header: header(alloc, (0x20010, 8))?,
-        imports: Sequence::from_vec([import(24, 1), import(32, 0), import(16, 0)].to_vec(alloc)?),
-        slots: slots(alloc)?,
-        functions: functions(alloc, &ranges)?,
-        entries: Sequence::from_vec(entries),
-        own: true,
-    };
-    let mut cod = Vec::new(alloc);
-    for byte in 0..24u8 {
-        cod.push(byte)?;
-    }
-    let out = image(alloc, &plan, &cod)?;
-    assert_eq!(rt;
-        out.as_slice(),
-        file_of(alloc, 2560, &[ROWS, WRITTEN_WHOLE])?.as_slice()
-    );
-    expect(&rt, alloc, "dump T", out, 0, WRITTEN_WHOLE_TEXT)
+    expect_written(&rt, alloc, SLOT, "", (2048, WRITTEN), WRITTEN_TEXT)?;
+    expect_written(
+        &rt,
+        alloc,
+        ELEMENT,
+        "c0035fd6",
+        (2560, WRITTEN_ARRAY),
+        WRITTEN_ARRAY_TEXT,
+    )?;
+    let code = "000102030405060708090a0b0c0d0e0f1011121314151617";
+    expect_written(
+        &rt,
+        alloc,
+        SECTIONS,
+        code,
+        (2560, WRITTEN_WHOLE),
+        WRITTEN_WHOLE_TEXT,
+    )
 }

@@ -1,6 +1,6 @@
 //! The text of a dump, made and written.
 
-ghost use Rattle.std.specs.Prelude.{◌≡◌, ◌≤◌, ◌^◌, length, None, Some, IfOk, IfErr, IfSome, OnOk, All, true};
+ghost use Rattle.std.specs.Prelude.{◌≡◌, ◌≤◌, ◌*◌, ◌^◌, length, None, Some, IfOk, IfErr, IfSome, OnOk, All, true};
 ghost use Rattle.rtr_bytes.specs.Checks.{first_fault, RefusedBy};
 ghost use Rattle.rtr_outside.specs.Sink.{Appends};
 ghost use Rattle.pe_image.specs.Checks.{pe_checks};
@@ -10,6 +10,7 @@ ghost use Rattle.rtr_sections.specs.Image.{rtr_checks};
 ghost use Rattle.cli_assembly.specs.Assemblies.{assembly_of};
 ghost use Rattle.cli_assembly.specs.Checks.{assembly_checks};
 ghost use Rattle.r2rdump.specs.OnePass.{text_in_one_pass};
+ghost use Rattle.r2rdump.specs.Types.{assembly_lines};
 ghost use Rattle.r2rdump.specs.Dump.{file_fault, lower, native_image_of, dump_text, IsRefused};
 
 use crate::headers::{file_line, header_lines};
@@ -36,7 +37,7 @@ pub enum DumpRefusal {
     /// The sink had a fault, and has the text up to some byte.
     #[error("the write failed")]
     SinkFailed,
-    /// Memory was refused, or the assembly's signatures are too long together ([`Assembly::read`]). Nothing was written.
+    /// Memory was refused, or the file asks for too much of it ([`dump_text`]). Nothing was written.
     #[error("out of memory")]
     NoMemory,
 }
@@ -137,7 +138,8 @@ fn printed(
     assembly: &Assembly,
 ) -> Result<Text, NoMemory>
     requires spellable { IfSome image.now (λ image. All (λ slot. IsSpellable slot.fixup) image.slots) }
-    ensures { IfOk result (λ text. text ≡ text_in_one_pass name.now (length assembly.now) pe.now image.now (assembly_of assembly.now)) }
+    ensures text { IfOk result (λ text. text ≡ text_in_one_pass name.now (length assembly.now) pe.now image.now (assembly_of assembly.now)) }
+    ensures room { OnOk result (length (assembly_lines (assembly_of assembly.now)) ≤ 32 * length assembly.now) }
 {
     let mut text = Text::new(alloc);
     file_line(&mut text, name, assembly.bytes().len())?;
@@ -153,6 +155,7 @@ fn text_of(alloc: Global, name: &str, bytes: &[u8]) -> Result<Text, ReadRefusal>
     ensures malformed { IfErr result (λ e. RefusedBy (file_fault bytes.now) e) }
     ensures well_formed { OnOk result (file_fault bytes.now ≡ None) }
     ensures text { IfOk result (λ text. text ≡ dump_text name.now bytes.now) }
+    ensures room { OnOk result (length (assembly_lines (assembly_of bytes.now)) ≤ 32 * length bytes.now) }
 {
     let pe = Pe::read(alloc, bytes)?;
     let assembly = read_assembly(alloc, &pe, bytes)?;
@@ -164,8 +167,9 @@ fn text_of(alloc: Global, name: &str, bytes: &[u8]) -> Result<Text, ReadRefusal>
 /// Prints the records of a file, given its name and its bytes, of which there are at most 2^31. The text is made whole
 /// before any of it is written. `Malformed` names the first of the checks 1 to 14, 16 to 22, 30 to 43, 50, 51 and, of an
 /// image of this compiler, 60 to 66 that fails, with its file offset; `SinkFailed` comes where the sink has a fault, and
-/// `NoMemory` where memory is refused, or the assembly's signatures ([`Assembly::read`]) or the lists of the image's entries
-/// ([`read_rtr`](rtr_sections::read_rtr)) are too long together.
+/// `NoMemory` where memory is refused, where the assembly's signatures ([`Assembly::read`]) or the lists of the image's entries
+/// are too long together, or its import records have too many slots ([`read_rtr`](rtr_sections::read_rtr)), and where the lines
+/// of the assembly have more than 32 times the bytes of the file.
 pub fn dump_text<S: Sink>(
     alloc: Global,
     name: &str,
@@ -176,6 +180,8 @@ pub fn dump_text<S: Sink>(
     ensures well_formed { OnOk result (file_fault bytes.now ≡ None) }
     ensures printed { OnOk result (Appends (dump_text name.now bytes.now) (S.written out.old) (S.written out.new)) }
     ensures refused { IfErr result (λ e. IsRefused S.written S.faults name.now bytes.now out.old out.new e) }
+    // The lines of the assembly are bounded by the file.
+    ensures room { OnOk result (length (assembly_lines (assembly_of bytes.now)) ≤ 32 * length bytes.now) }
     ensures never_falls { S.faults out.old ≤ S.faults out.new }
 {
     let text = match text_of(alloc, name, bytes) {

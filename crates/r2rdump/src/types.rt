@@ -1,6 +1,6 @@
 //! The lines of the assembly: its name, and each type with its methods.
 
-ghost use Rattle.std.specs.Prelude.{◌≡◌, ◌++◌, OnOk};
+ghost use Rattle.std.specs.Prelude.{◌≡◌, ◌≤◌, ◌+◌, ◌*◌, ◌++◌, length, OnOk};
 ghost use Rattle.std.specs.List.{flat_map, range_with_len};
 ghost use Rattle.metadata.specs.declared.schema.Table.TheVariants as tables;
 ghost use Rattle.cli_assembly.specs.Assemblies.{assembly_of, methods_of, row_count};
@@ -25,6 +25,21 @@ const TYPE_NAMESPACE: u8 = 2;
 const METHOD_NAME: u8 = 3;
 /// The column of Signature of MethodDef.
 const METHOD_SIGNATURE: u8 = 4;
+
+/// The lines of the assembly have at most so many bytes for each byte of the file.
+const BYTES_OF_LINES: usize = 32;
+
+/// `NoMemory` where a text has more than so many bytes. Rows may share a name or a signature, and a line has it as often as rows
+/// name it: without a limit a small file could ask for a text of any size. In assemblies of mono the lines have at most half of
+/// the bytes of the file.
+fn check_room(text: &Text, most: usize) -> Result<(), NoMemory>
+    ensures { OnOk result (length text.now ≤ most) }
+{
+    if text.as_slice().len() > most {
+        return Err(NoMemory);
+    }
+    Ok(())
+}
 
 /// The token of a TypeDef row.
 fn type_token(row: u32) -> u32
@@ -77,30 +92,44 @@ fn method_lines(
     text: &mut Text,
     assembly: &Assembly,
     row: u32,
+    most: usize,
 ) -> Result<(), NoMemory>
     ensures { OnOk result (text.new ≡ text.old ++ flat_map (method_line (assembly_of assembly.now)) (methods_of (assembly_of assembly.now) row)) }
 {
     let Range { start, end } = assembly.methods(row);
     for method in start..end {
         method_line(alloc, text, assembly, method)?;
+        check_room(text, most)?;
     }
     Ok(())
 }
 
-fn type_lines(alloc: Global, text: &mut Text, assembly: &Assembly, row: u32) -> Result<(), NoMemory>
+fn type_lines(
+    alloc: Global,
+    text: &mut Text,
+    assembly: &Assembly,
+    row: u32,
+    most: usize,
+) -> Result<(), NoMemory>
     ensures { OnOk result (text.new ≡ text.old ++ type_lines (assembly_of assembly.now) row) }
 {
     type_line(text, assembly, row)?;
-    method_lines(alloc, text, assembly, row)
+    check_room(text, most)?;
+    method_lines(alloc, text, assembly, row, most)
 }
 
-fn all_type_lines(alloc: Global, text: &mut Text, assembly: &Assembly) -> Result<(), NoMemory>
+fn all_type_lines(
+    alloc: Global,
+    text: &mut Text,
+    assembly: &Assembly,
+    most: usize,
+) -> Result<(), NoMemory>
     ensures { OnOk result (text.new ≡ text.old ++ flat_map (type_lines (assembly_of assembly.now))
         (range_with_len 1 (row_count (assembly_of assembly.now) tables.TypeDef))) }
 {
     let end = assembly.rows(Table::TypeDef) + 1;
     for row in 1..end {
-        type_lines(alloc, text, assembly, row)?;
+        type_lines(alloc, text, assembly, row, most)?;
     }
     Ok(())
 }
@@ -112,15 +141,19 @@ fn assembly_line(text: &mut Text, assembly: &Assembly) -> Result<(), NoMemory>
     text.words("\n")
 }
 
-/// Adds the lines of the assembly.
+/// Adds the lines of the assembly. `NoMemory` comes also where they have more than 32 times the bytes of the file.
 #[tactic(auto, unfolding(crate::specs::Types::assembly_lines))]
 pub(crate) fn assembly_lines(
     alloc: Global,
     text: &mut Text,
     assembly: &Assembly,
 ) -> Result<(), NoMemory>
-    ensures { OnOk result (text.new ≡ text.old ++ assembly_lines (assembly_of assembly.now)) }
+    ensures lines { OnOk result (text.new ≡ text.old ++ assembly_lines (assembly_of assembly.now)) }
+    ensures room { OnOk result (length text.new ≤ length text.old + 32 * length assembly.now) }
 {
+    let more = BYTES_OF_LINES.saturating_mul(assembly.bytes().len());
+    let most = text.as_slice().len().saturating_add(more);
     assembly_line(text, assembly)?;
-    all_type_lines(alloc, text, assembly)
+    all_type_lines(alloc, text, assembly, most)?;
+    check_room(text, most)
 }

@@ -18,7 +18,8 @@ use Rattle.type_world.specs.declared.place.Place.TheVariants.{Integer}
 use Rattle.type_world.specs.declared.place.Shape.{Shape}
 use Rattle.type_world.specs.World.{World}
 use Rattle.type_world.specs.Members.{signature_of}
-use Rattle.type_world.specs.Profile.{few_arguments, method_flag, place_of, places_of, result_of, shape, shape_by, shape_of, shape_with, with_this}
+use Rattle.type_world.specs.Profile.{few_arguments, method_flag, place_of, places_of, result_of, shape, shape_by}
+use Rattle.type_world.specs.Profile.{shape_of, shape_with, with_this}
 use Rattle.type_world.specs.Arithmetic.{low_of_int}
 use Rattle.type_world.specs.Entries.{can_start, in_range, is_printable, takes_number, takes_numbers}
 use Rattle.type_world.specs.Typing.{kind_of}

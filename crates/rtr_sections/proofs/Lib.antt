@@ -33,5 +33,6 @@ pub mod ImageRead
 pub mod PutLemmas
 pub mod PlanLemmas
 pub mod Unread
+pub mod ListsLen
 pub mod WrittenLemmas
 pub mod TypesFit

@@ -1,11 +1,12 @@
 -- The ReadyToRun part of a file by its records, and the checks of it, each computed from the bytes alone.
-use Rattle.std.specs.Prelude.{ℕ, List, [], ◌∷◌, ◌++◌, Option, None, if◌then◌else◌}
+use Rattle.std.specs.Prelude.{ℕ, List, [], ◌∷◌, ◌++◌, Option, None, if◌then◌else◌, sum_by}
 use Rattle.rtr_bytes.specs.Checks.{Check, check}
 use Rattle.rtr_sections.specs.declared.image.Image.{Image}
 use Rattle.rtr_sections.specs.Header.{header_checks, if_native, is_own, part_of, rtr_header_of}
-use Rattle.rtr_sections.specs.Imports.{all_slots, first_bad_of, foreign_import, imports_in, out_of_order, unplaced_cells}
+use Rattle.rtr_sections.specs.Imports.{all_slots, first_bad_of, foreign_import, imports_in, out_of_order, slot_count, unplaced_cells}
 use Rattle.rtr_sections.specs.Functions.{bad_function, function_count, functions_in}
 use Rattle.rtr_sections.specs.Entries.{bad_array, entries_in, first_cut, first_unlinked}
+use Rattle.rtr_sections.specs.EntryHeads.{lists_len}
 
 -- what is asked of an image of this compiler alone
 abbrev pub if_own : List ℕ → Option ℕ → Option ℕ
@@ -34,6 +35,14 @@ own_checks rows =
 -- all of them, in their order
 unfoldable pub rtr_checks : ℕ → List Check
 rtr_checks rows = header_checks ++ (image_checks ++ own_checks rows)
+
+-- how many bytes the lists of slots of all its entries have, a list as often as entries name it; a foreign image has none
+unfoldable pub own_lists_len : List ℕ → ℕ
+own_lists_len bytes = if is_own bytes then lists_len bytes (part_of bytes 103) else 0
+
+-- how many slots all its import records have
+unfoldable pub own_slot_count : List ℕ → ℕ
+own_slot_count bytes = if is_own bytes then sum_by slot_count (imports_in bytes (part_of bytes 101)) else 0
 
 -- what is in a file with a native header: of a foreign image nothing but the header and the import records
 unfoldable pub own_image_of : List ℕ → Image

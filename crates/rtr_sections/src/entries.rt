@@ -1,12 +1,13 @@
 //! Entries: which function belongs to a MethodDef row, and the slots that it needs.
 
-ghost use Rattle.std.specs.Prelude.{◌≡◌, ◌+◌, ◌≤◌, ◌<◌, ◌^◌, length, Some, None, IfErr, IfOk, IfSome, OnOk};
+ghost use Rattle.std.specs.Prelude.{◌≡◌, ◌+◌, ◌*◌, ◌≤◌, true, ◌<◌, ◌^◌, length, Some, None, IfErr, IfOk, IfSome, OnOk};
 ghost use Rattle.std.specs.Option.{option_and_then};
 ghost use Rattle.rtr_bytes.specs.Checks.{fault_or, RefusedBy};
 ghost use Rattle.native_format.specs.Sparse.{array_at, element_of};
 ghost use Rattle.rtr_sections.specs.Numbered.{first_bad, present};
 ghost use Rattle.rtr_sections.specs.Entries.{array_in, bad_array, bytes_in, content_place, cut_place, entries_in, entry_of, first_cut, function_of_id, list_place};
-ghost use Rattle.rtr_sections.specs.EntryHeads.{entry_of_head, first_unlinked_in, head_at, head_of_id, is_linked_at, is_linked_head, slots_of_head, unlinked_index};
+ghost use Rattle.rtr_sections.specs.EntryHeads.{HasRoom, asked_more, entry_of_head, first_unlinked_in, head_at, head_of_id, is_linked_at, is_linked_head};
+ghost use Rattle.rtr_sections.specs.EntryHeads.{list_len_at, list_len_of, lists_len, lists_len_of, slots_of_head, unlinked_index};
 
 use crate::check::Check;
 use crate::file::File;
@@ -90,16 +91,18 @@ impl EntryHead {
     }
 
     /// Whether it names a function and slots that exist.
-    fn is_linked(&self, lists: &mut SlotLists<'_>, functions: u32) -> bool
-        ensures linked { result ≡ is_linked_head lists.old.bytes lists.old.imports functions self.now }
-        ensures lists { lists.new ≡ lists.old }
+    fn is_linked(&self, lists: &mut SlotLists<'_>, functions: u32) -> Result<bool, NoMemory>
+        requires room { HasRoom lists.old }
+        ensures linked { IfOk result (λ linked. linked ≡ is_linked_head lists.old.bytes lists.old.imports functions self.now) }
+        ensures asked { IfOk result (λ linked. linked ≡ true → lists.new ≡ asked_more (list_len_of lists.old.bytes self.now) lists.old) }
+        ensures room { IfOk result (λ linked. linked ≡ true → HasRoom lists.new) }
     {
         if self.function >= functions {
-            return false;
+            return Ok(false);
         }
         match self.list {
             Some(at) => lists.links_at(at),
-            None => true,
+            None => Ok(true),
         }
     }
 
@@ -180,15 +183,17 @@ fn is_linked_at(
     file: &File<'_>,
     part: Span,
     at: u32,
-) -> bool
+) -> Result<bool, NoMemory>
     requires in_reach { part.start + part.len < 2 ^ 32 }
     requires lists { lists.old.bytes ≡ file.now }
-    ensures linked { result ≡ is_linked_at file.now part lists.old.imports functions at }
-    ensures lists { lists.new ≡ lists.old }
+    requires room { HasRoom lists.old }
+    ensures linked { IfOk result (λ linked. linked ≡ is_linked_at file.now part lists.old.imports functions at) }
+    ensures asked { IfOk result (λ linked. linked ≡ true → lists.new ≡ asked_more (list_len_at file.now part at) lists.old) }
+    ensures room { IfOk result (λ linked. linked ≡ true → HasRoom lists.new) }
 {
     match EntryHead::read(file, part, at) {
         Some(head) => head.is_linked(lists, functions),
-        None => false,
+        None => Ok(false),
     }
 }
 
@@ -204,14 +209,15 @@ fn check_links(
     requires in_reach { part.start + part.len < 2 ^ 32 }
     requires within { length array.now.bytes ≤ part.len }
     requires lists { lists.old.bytes ≡ file.now }
+    requires none_asked { lists.old.asked ≡ 0 }
     ensures fault { IfErr result (λ e. RefusedBy (fault_or 65 (first_bad (unlinked_index file.now part lists.old.imports functions array.now) 0 array.now.count) None) e) }
     ensures ok { OnOk result (first_bad (unlinked_index file.now part lists.old.imports functions array.now) 0 array.now.count ≡ None) }
+    ensures room { OnOk result (lists_len_of file.now part (Some array.now) ≤ 32 * length file.now) }
 {
     for index in 0..array.count() {
         if let Some(at) = content_at(array, index) {
-            let linked = is_linked_at(lists, functions, file, part, at);
+            let linked = is_linked_at(lists, functions, file, part, at)?;
             ensure(linked, Check::EntryContent as u16, part.start + at)?;
-            lists.check_room()?;
         }
     }
     Ok(())
@@ -240,7 +246,7 @@ fn read_array<'a>(file: &'a File<'_>, part: Span, rows: u32) -> Result<SparseArr
 /// list is remembered by its place, since entries may share lists; nothing else is kept. `NoMemory` comes also where the
 /// lists of the entries have together more than 32 times the bytes of the file, a list that entries share as often as they
 /// name it.
-#[tactic(auto, unfolding(crate::specs::Entries::bad_array, crate::specs::Entries::first_cut, crate::specs::EntryHeads::first_unlinked_in))]
+#[tactic(auto, unfolding(crate::specs::Entries::bad_array, crate::specs::Entries::first_cut, crate::specs::EntryHeads::first_unlinked_in, crate::specs::EntryHeads::lists_len))]
 pub(crate) fn check_entries(
     alloc: Global,
     file: &File<'_>,
@@ -254,6 +260,7 @@ pub(crate) fn check_entries(
     ensures array { OnOk result (bad_array rows file.now part ≡ None) }
     ensures paths { OnOk result (first_cut file.now part ≡ None) }
     ensures linked { OnOk result (first_unlinked_in file.now part imports.now functions ≡ None) }
+    ensures room { OnOk result (lists_len file.now part ≤ 32 * length file.now) }
 {
     if part.len == 0 {
         return Ok(());

@@ -1,14 +1,15 @@
 //! The ReadyToRun part of an image, by its records.
 
-ghost use Rattle.std.specs.Prelude.{◌≡◌, ◌≤◌, ◌^◌, length, None, All, IfErr, IfOk, OnOk, is_some, true};
+ghost use Rattle.std.specs.Prelude.{◌≡◌, ◌*◌, ◌≤◌, ◌^◌, length, None, All, IfErr, IfOk, OnOk, is_some, sum_by, true};
 ghost use Rattle.rtr_bytes.specs.Checks.{first_fault, RefusedBy};
 ghost use Rattle.pe_image.specs.Headers.{headers_of, native_of};
 ghost use Rattle.pe_image.specs.Checks.{pe_checks};
 ghost use Rattle.fixup_sigs.specs.Shortest.{IsSpellable};
 ghost use Rattle.rtr_sections.specs.Header.{is_own, part_of, rtr_header_of};
-ghost use Rattle.rtr_sections.specs.Imports.{imports_in};
+ghost use Rattle.rtr_sections.specs.Imports.{imports_in, slot_count};
 ghost use Rattle.rtr_sections.specs.Functions.{functions_in};
-ghost use Rattle.rtr_sections.specs.Image.{own_checks, own_image_of, foreign_image_of, image_of, rtr_checks};
+ghost use Rattle.rtr_sections.specs.EntryHeads.{lists_len};
+ghost use Rattle.rtr_sections.specs.Image.{own_checks, own_image_of, own_lists_len, own_slot_count, foreign_image_of, image_of, rtr_checks};
 
 use crate::bad_words::check_slots;
 use crate::entries::{EntryPoint, check_entries, read_entries};
@@ -66,6 +67,7 @@ fn check_own(
     ensures malformed { IfErr result (λ e. RefusedBy (first_fault (own_checks method_rows) file.now) e) }
     ensures well_formed { OnOk result (first_fault (own_checks method_rows) file.now ≡ None) }
     ensures functions { IfOk result (λ functions. functions.items ≡ functions_in file.now (part_of file.now 102)) }
+    ensures room { OnOk result (lists_len file.now (part_of file.now 103) ≤ 32 * length file.now) }
 {
     let import_part = header.part(file, IMPORT_SECTIONS);
     let function_part = header.part(file, RUNTIME_FUNCTIONS);
@@ -92,7 +94,8 @@ fn read_own(
     requires header { header ≡ rtr_header_of file.now }
     requires imports { imports.items ≡ imports_in file.now (part_of file.now 101) }
     requires functions { functions.items ≡ functions_in file.now (part_of file.now 102) }
-    ensures { IfOk result (λ image. image ≡ own_image_of file.now) }
+    ensures image { IfOk result (λ image. image ≡ own_image_of file.now) }
+    ensures few_slots { OnOk result (sum_by slot_count (imports_in file.now (part_of file.now 101)) ≤ 4 * length file.now) }
 {
     let slots = read_slots(alloc, file, &imports)?;
     let entry_part = header.part(file, METHOD_DEF_ENTRY_POINTS);
@@ -108,12 +111,14 @@ fn read_own(
 }
 
 /// The ReadyToRun part of a file, whose assembly has so many MethodDef rows.
-#[tactic(auto, unfolding(crate::specs::Image::image_of, crate::specs::Image::foreign_image_of))]
+#[tactic(auto, unfolding(crate::specs::Image::image_of, crate::specs::Image::foreign_image_of, crate::specs::Image::own_lists_len, crate::specs::Image::own_slot_count))]
 fn read_image(alloc: Global, file: &File<'_>, method_rows: u32) -> Result<Image, ReadRefusal>
     requires native { is_some (native_of file.now) ≡ true }
     ensures malformed { IfErr result (λ e. RefusedBy (first_fault (rtr_checks method_rows) file.now) e) }
     ensures well_formed { OnOk result (first_fault (rtr_checks method_rows) file.now ≡ None) }
     ensures image { IfOk result (λ image. image ≡ image_of file.now) }
+    ensures room { OnOk result (own_lists_len file.now ≤ 32 * length file.now) }
+    ensures few_slots { OnOk result (own_slot_count file.now ≤ 4 * length file.now) }
 {
     let header = RtrHeader::read(alloc, file)?;
     let import_part = header.part(file, IMPORT_SECTIONS);
@@ -138,7 +143,8 @@ fn read_image(alloc: Global, file: &File<'_>, method_rows: u32) -> Result<Image,
 /// 60 to 66 that fails, with its first place. While it checks it takes memory in proportion to the file, and keeps no
 /// slot and no entry; those of an image that passes are read after all checks. `NoMemory` comes where memory is refused, and
 /// also where the lists of slots of all entries together, a list as often as entries name it, have more than 32 times the bytes
-/// of the file; the file may then fail a check that comes after.
+/// of the file, which may then fail a check that comes after, and, once all checks have passed, where the import records have
+/// together more than four slots for each byte of the file.
 pub fn read_rtr(
     alloc: Global,
     pe: &Pe,
@@ -153,6 +159,10 @@ pub fn read_rtr(
     ensures well_formed { OnOk result (first_fault (rtr_checks method_rows) bytes.now ≡ None) }
     ensures image { IfOk result (λ image. image ≡ image_of bytes.now) }
     ensures own { IfOk result (λ image. image.own ≡ is_own bytes.now) }
+    // The lists of slots of all entries are bounded by the file.
+    ensures room { OnOk result (own_lists_len bytes.now ≤ 32 * length bytes.now) }
+    // So are the slots of all import records.
+    ensures few_slots { OnOk result (own_slot_count bytes.now ≤ 4 * length bytes.now) }
     // Each slot's fixup has a signature that can be written.
     ensures spellable { IfOk result (λ image. All (λ slot. IsSpellable slot.fixup) image.slots) }
 {

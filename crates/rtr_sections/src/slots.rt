@@ -1,8 +1,8 @@
 //! Slots: the fixup that a cell stands for, and the cell's word in the file.
 
-ghost use Rattle.std.specs.Prelude.{◌≡◌, ◌+◌, ◌*◌, ◌++◌, ◌≤◌, ◌<◌, ◌^◌, length, IfOk, OnOk};
+ghost use Rattle.std.specs.Prelude.{◌≡◌, ◌+◌, ◌*◌, ◌++◌, ◌≤◌, ◌<◌, ◌^◌, length, sum_by, IfOk, OnOk};
 ghost use Rattle.fixup_sigs.specs.Reading.{fixup_at};
-ghost use Rattle.rtr_sections.specs.Imports.{all_slots, named_fixup, slot_at, slots_in};
+ghost use Rattle.rtr_sections.specs.Imports.{all_slots, named_fixup, slot_at, slot_count, slots_in};
 
 use crate::file::File;
 use crate::imports::{CELL_SIZE, ImportSection, SIGNATURE_SIZE};
@@ -64,14 +64,37 @@ fn read_section(
     Ok(())
 }
 
-/// The slots of import records that have a fixup, in order of section and slot.
+/// So many slots are read for each byte of the file: their cells of 8 bytes have 32 times its bytes.
+const SLOTS_PER_BYTE: u64 = 4;
+
+/// `NoMemory` where import records have together more than four slots for each byte of the file. Records may share cells and
+/// signatures where sections of the file share raw bytes: without a limit the slots of a small file could be any number. In an
+/// image whose sections share no bytes the cells are shorter than the file.
+fn check_slot_count(file: &File<'_>, imports: &[ImportSection]) -> Result<(), NoMemory>
+    ensures { OnOk result (sum_by slot_count imports.now ≤ 4 * length file.now) }
+{
+    let room = file.bytes().len() as u64 * SLOTS_PER_BYTE;
+    let mut count: u64 = 0;
+    for import in imports {
+        count += u64::from(import.slot_count());
+        if count > room {
+            return Err(NoMemory);
+        }
+    }
+    Ok(())
+}
+
+/// The slots of import records that have a fixup, in order of section and slot. `NoMemory` comes also where the records have
+/// more than four slots for each byte of the file.
 pub(crate) fn read_slots(
     alloc: Global,
     file: &File<'_>,
     imports: &[ImportSection],
 ) -> Result<Vec<Slot>, NoMemory>
-    ensures { IfOk result (λ slots. slots.items ≡ all_slots file.now imports.now) }
+    ensures slots { IfOk result (λ slots. slots.items ≡ all_slots file.now imports.now) }
+    ensures few { OnOk result (sum_by slot_count imports.now ≤ 4 * length file.now) }
 {
+    check_slot_count(file, imports)?;
     let mut slots = Vec::new(alloc);
     for import in imports {
         read_section(&mut slots, file, import)?;

@@ -5,6 +5,7 @@ use Rattle.std.proofs.Common.{subst, arith, if◌then◌else◌, option_and_then
 use Rattle.cil_decode.specs.declared.instr.Instr.{Instr}
 use Rattle.cil_decode.specs.declared.body.BodyRefusal.{BodyRefusal}
 use Rattle.cil_decode.specs.Instructions.{instr_at, instr_size, form_in, with_form}
+use Rattle.cil_decode.proofs.Sizes.{some_size}
 use Rattle.type_world.specs.declared.identity.MethodId.{MethodId}
 use Rattle.type_world.specs.World.{World}
 use Rattle.std.proofs.lemmas.List.{length-drop}
@@ -58,14 +59,6 @@ in_profile_short world id m h x e =
     (subst (λ o. option_and_then (if_verifies world) (option_and_then (if_meets world) o) ≡ Some m) e h)
 
 -- ---- an instruction lies in its code, and has at least one byte
-
-one_or_two : (b : Bool) → 0 < (if b then 1 else 2)
-one_or_two true = omega arith
-one_or_two false = omega arith
-
-pub some_size : (i : Instr) → 0 < instr_size i
-unfolding instr_size
-some_size i = omega (arith, one_or_two (nat_lt i.form 0x100))
 
 in_code : (code rest : List ℕ) (at : ℕ) (i : Instr) → drop at code ≡ rest → with_form code at (form_in rest) ≡ Ok i → at < length code
 in_code code [] at i e h = absurd (cc)

@@ -56,7 +56,7 @@ type_same (types.Class asm row) = ap (λ b. b && (row == row)) (eq-eqb asm asm r
 pub type_eqs : (of other : TypeId) → of ≡ other → type_eq of other ≡ true
 type_eqs of other e = subst (λ x. type_eq of x ≡ true) e (type_same of)
 
-or_right : (a b : Bool) → b ≡ true → (a || b) ≡ true
+pub or_right : (a b : Bool) → b ≡ true → (a || b) ≡ true
 or_right true b e = refl
 or_right false b e = e
 

@@ -9,7 +9,8 @@ use Rattle.cil_decode.specs.declared.body.BodyRefusal.TheVariants as refusals
 use Rattle.cil_decode.specs.Instructions.{instr_at, instr_size}
 use Rattle.cil_decode.specs.Bodies.{Breaks, Follow, IsBody, IsCode, IsRefused, first_unlinked}
 use Rattle.type_world.specs.Profile.{from_offset, instrs_from, instrs_of, linked, next_instr}
-use Rattle.type_world.proofs.Bound.{instr_inside, some_size}
+use Rattle.cil_decode.proofs.Sizes.{some_size}
+use Rattle.type_world.proofs.Bound.{instr_inside}
 
 -- each instruction takes at least one byte
 counted : (code : List ℕ) (at : ℕ) (list : List Instr) (end : ℕ) → Follow code at list end → at + length list ≤ end

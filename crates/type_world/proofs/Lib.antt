@@ -9,14 +9,17 @@ mod Runs
 mod Chains
 mod Widening
 mod Monotone
-mod Rounds
+pub mod Rounds
+mod Least
 mod Names
 mod Counts
 mod Untyped
+mod FirstUntyped
 mod FullNames
 mod Listed
 mod TypeNames
 mod TypeRefs
+mod RowSearch
 mod OtherNames
 mod ChainSteps
 mod Ascending

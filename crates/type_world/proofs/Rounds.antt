@@ -49,7 +49,7 @@ stack_same : (ks : List Kind) → pointwise kind_eq ks ks ≡ true
 stack_same [] = refl
 stack_same (k ∷ ks) = ap (λ b. b && pointwise kind_eq ks ks) (kind_same k) ∙ stack_same ks
 
-typing_is : (t u : Typing) → same_typing t u ≡ true → t ≡ u
+pub typing_is : (t u : Typing) → same_typing t u ≡ true → t ≡ u
 typing_is [] [] e = refl
 typing_is (a ∷ t) (b ∷ u) e =
     let first : (a.0 == b.0 && pointwise kind_eq a.1 b.1) ≡ true =
@@ -68,15 +68,15 @@ typing_same (a ∷ t) =
 
 -- ---- what one more stack changes
 
-abbrev stack_in : Option (ℕ × List Kind) → Option (List Kind)
+abbrev pub stack_in : Option (ℕ × List Kind) → Option (List Kind)
 stack_in o = option_map (λ f. f.1) o
 
 module _ (world : World) where
-  abbrev merged : List Kind → Option (List Kind) → List Kind
+  abbrev pub merged : List Kind → Option (List Kind) → List Kind
   merged s None = s
   merged s (Some ks) = widen_all world ks s
 
-  at_others : (s : List Kind) (to at : ℕ) (t : Typing) → (to == at) ≡ false → stack_at (with_stack world s to t) at ≡ stack_at t at
+  pub at_others : (s : List Kind) (to at : ℕ) (t : Typing) → (to == at) ≡ false → stack_at (with_stack world s to t) at ≡ stack_at t at
   unfolding with_stack
   at_others s to at [] e = ap (λ b. stack_in (cond b (Some (to, s)) None)) e
   at_others s to at (found ∷ t) e = by_here (at_others s to at t e) (found.0 == to) refl
@@ -95,7 +95,7 @@ module _ (world : World) where
           by_found true = refl
           by_found false = rest
 
-  at_itself : (s : List Kind) (to : ℕ) (t : Typing) → stack_at (with_stack world s to t) to ≡ Some (merged s (stack_at t to))
+  pub at_itself : (s : List Kind) (to : ℕ) (t : Typing) → stack_at (with_stack world s to t) to ≡ Some (merged s (stack_at t to))
   unfolding with_stack
   at_itself s to [] = ap (λ b. stack_in (cond b (Some (to, s)) None)) (eq-eqb to to refl)
   at_itself s to (found ∷ t) = by_here (at_itself s to t) (found.0 == to) refl
@@ -130,7 +130,7 @@ module _ (world : World) (method : Method) (last : ℕ) (instrs : List Instr) (w
   cost None = suc (method.max_stack * most world)
   cost (Some ks) = weights world ks
 
-  total : List Instr → Typing → ℕ
+  pub total : List Instr → Typing → ℕ
   total [] t = 0
   total (i ∷ list) t = cost (stack_at t i.at) + total list t
 
@@ -168,16 +168,16 @@ module _ (world : World) (method : Method) (last : ℕ) (instrs : List Instr) (w
 
   -- ---- typings below the whole one
 
-  abbrev IsBelow : Typing → ℕ → List Kind → Type 0
+  abbrev pub IsBelow : Typing → ℕ → List Kind → Type 0
   IsBelow t at ks = (ls : List Kind) × (stack_at whole at ≡ Some ls) × (stack_fits world ks ls ≡ true)
 
-  record Good (t : Typing) : Type 0 where
-    below : (at : ℕ) (ks : List Kind) → stack_at t at ≡ Some ks → IsBelow t at ks
-    first : List Kind
-    begins : stack_at t 0 ≡ Some first
+  pub record Good (t : Typing) : Type 0 where
+    pub below : (at : ℕ) (ks : List Kind) → stack_at t at ≡ Some ks → IsBelow t at ks
+    pub first : List Kind
+    pub begins : stack_at t 0 ≡ Some first
 
   -- it takes a step, or it stays as it is and passes a test
-  abbrev Goes : Typing → Typing → Bool → Type 0
+  abbrev pub Goes : Typing → Typing → Bool → Type 0
   Goes t u passes = (total instrs u < total instrs t) ⊎ ((u ≡ t) × (passes ≡ true))
 
   -- of a list of steps
@@ -361,7 +361,7 @@ module _ (world : World) (method : Method) (last : ℕ) (instrs : List Instr) (w
   abbrev PassesOf : Typing → Instr → Option (List Kind) → Bool
   PassesOf t i o = option_map_or (λ stack. keeps world method instrs t (flow_at world method last i stack)) o true
 
-  instr_goes : (t : Typing) (i : Instr) → meets_rule world method last instrs whole i ≡ true → Good t
+  pub instr_goes : (t : Typing) (i : Instr) → meets_rule world method last instrs whole i ≡ true → Good t
       → Good (with_instr world method last t i) × Goes t (with_instr world method last t i) (meets_rule world method last instrs t i)
   instr_goes t i rule g = by_stack (stack_at t i.at) refl
     where
@@ -377,19 +377,19 @@ module _ (world : World) (method : Method) (last : ℕ) (instrs : List Instr) (w
 
   -- ---- one round, and all of them
 
-  empty_first : option_map_or (λ stack. length stack == 0) (stack_at whole 0) false ≡ true
+  pub empty_first : option_map_or (λ stack. length stack == 0) (stack_at whole 0) false ≡ true
   unfolding is_typing
   empty_first =
       both_left (option_map_or (λ stack. length stack == 0) (stack_at whole 0) false)
       (list_all (meets_rule world method last instrs whole) instrs) whole_is
 
-  rules : list_all (meets_rule world method last instrs whole) instrs ≡ true
+  pub rules : list_all (meets_rule world method last instrs whole) instrs ≡ true
   unfolding is_typing
   rules =
       both_right (option_map_or (λ stack. length stack == 0) (stack_at whole 0) false)
       (list_all (meets_rule world method last instrs whole) instrs) whole_is
 
-  round_goes : (t : Typing) → Good t
+  pub round_goes : (t : Typing) → Good t
       → Good (round world method last instrs t)
       × Goes t (round world method last instrs t) (list_all (meets_rule world method last instrs t) instrs)
   round_goes t g =
@@ -453,7 +453,7 @@ module _ (world : World) (method : Method) (last : ℕ) (instrs : List Instr) (w
           ([], subst (λ n. stack_at whole n ≡ Some []) here w, subst (λ x. stack_fits world x [] ≡ true) none refl)
       by_first (Some (k ∷ ls)) w h = absurd (let none : length (k ∷ ls) ≡ 0 = eqb-true (length (k ∷ ls)) 0 h in omega (arith, none))
 
-  start_good : Good start
+  pub start_good : Good start
   start_good = record { below = λ at ks e. start_below at ks (0 == at) refl e; first = []; begins = refl }
 
   start_cost : (b : Bool) → cost (stack_in (cond b (Some (0, [])) None)) ≤ suc (method.max_stack * most world)

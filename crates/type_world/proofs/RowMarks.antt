@@ -133,7 +133,7 @@ go_on old new slice len rows before names row is same long many marks marked fou
     (λ k l. found k (omega (arith, all, many, l))) in
     (subst (λ m. Marks m names (before + 1)) (sym kept) next, ap length kept ∙ same ∙ all ∙ many)
 
-all_marks : (marks : List Bool) (names : ℕ → ℕ → Bool) (n count : ℕ) → Marks marks names count → length marks ≡ n
+pub all_marks : (marks : List Bool) (names : ℕ → ℕ → Bool) (n count : ℕ) → Marks marks names count → length marks ≡ n
     → marks ≡ map (λ k. list_any (names k) (range_with_len 1 count)) (range_with_len 0 n)
 all_marks marks names n count m long =
     fill_by_all (λ k. list_any (names k) (range_with_len 1 count)) marks n false long (λ k l. m k (omega (arith, long, l)))
@@ -168,7 +168,7 @@ overriding_are world asm marks before m long all =
 abbrev marks_of : (ℕ → Bool) → ℕ → List Bool
 marks_of f n = map f (range_with_len 0 (n + 1))
 
-mark_of : (f : ℕ → Bool) (n row : ℕ) → row ≤ n → get_or (marks_of f n) row false ≡ f row
+pub mark_of : (f : ℕ → Bool) (n row : ℕ) → row ≤ n → get_or (marks_of f n) row false ≡ f row
 mark_of f n row l = get_or-map-range_with_len f 0 (n + 1) row row false (omega arith) (omega arith)
 
 pub generic_mark : (world : World) (asm : ℕ) (table : Table) (row : ℕ) (marks : List Bool) → marks ≡ generic_in world asm table

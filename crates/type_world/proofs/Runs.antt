@@ -1,19 +1,16 @@
 -- A run of typed code is never stuck: each frame is at an instruction of its typing, with values of the types that are said there.
 use Rattle.std.proofs.Common.{◌≡◌, ◌≢◌, inl, inr, ℕ, zero, suc, ◌+◌, ◌<◌, ◌*◌, ◌++◌, ◌&&◌, ◌||◌, ◌==◌, not, Bool, true}
-use Rattle.std.proofs.Common.{false, nat_lt, nat_le, ℤ, List, [], ◌∷◌, length, drop, Option, Some, None}
+use Rattle.std.proofs.Common.{false, nat_lt, nat_le, ℤ, List, [], ◌∷◌, length, Option, Some, None}
 use Rattle.std.proofs.Common.{Ok, refl, sym, ap, ◌∙◌, subst, arith, if◌then◌else◌, option_and_then, is_some}
 use Rattle.std.proofs.Common.{eqb-true, eq-eqb, le-ltb}
 use Rattle.std.specs.Option.{option_map, option_map_or}
 use Rattle.std.specs.List.{list_all, list_any}
 use Rattle.std.specs.Cmp.Lexicographic.{pointwise}
 use Rattle.metadata.specs.declared.schema.Table.TheVariants as tables
-use Rattle.cil_decode.specs.declared.instr.Arg.{Arg}
 use Rattle.cil_decode.specs.declared.instr.Instr.{Instr}
-use Rattle.cil_decode.specs.declared.opcode.Operand.{Operand}
 use Rattle.cil_decode.specs.declared.operation.Operation.{Operation}
-use Rattle.cil_decode.specs.Opcodes.{operand_of}
 use Rattle.cil_decode.specs.Operations.{operation_of}
-use Rattle.cil_decode.specs.Instructions.{form_in, form_size, instr, instr_at, instr_size, operand_at, with_arg, with_form, with_operand}
+use Rattle.cil_decode.specs.Instructions.{instr_at, instr_size}
 use Rattle.cil_decode.specs.Bodies.{Follow, IsBody, is_start}
 use Rattle.cli_assembly.specs.declared.signature.MethodSig.{MethodSig}
 use Rattle.cli_assembly.specs.declared.flags.TheConstants.{METHOD_STATIC}
@@ -43,6 +40,7 @@ use Rattle.type_world.specs.Run.{give, given, go_to, line_of, onto as onto_stack
 use Rattle.type_world.specs.Run.{run_of, start, step, step_at, tick}
 use Rattle.type_world.specs.Soundness.{CallFits, HasKind, HasKinds, Holds, In, ResultFits, Sound, onto}
 use Rattle.type_world.specs.Laws.{TypedCodeRuns}
+use Rattle.cil_decode.proofs.Sizes.{offset_is}
 use Rattle.type_world.proofs.Bound.{both_left, both_right, instr_inside}
 use Rattle.type_world.proofs.Decoded.{whole}
 use Rattle.type_world.proofs.Typed.{typed}
@@ -50,22 +48,6 @@ use Rattle.type_world.proofs.Sound.{act_sound}
 use Rattle.type_world.proofs.Entered.{AreKeptBy, Prints, call_prints, entry_prints, held_are_kept, numbers_held, zeros_held}
 
 -- ---- the instruction at an offset
-
-pub at_is : (code : List ℕ) (at : ℕ) (i : Instr) → instr_at code at ≡ Ok i → i.at ≡ at
-unfolding instr_at
-at_is code at i e = by_form (form_in (drop at code)) e
-  where
-    by_arg : (form : ℕ) (o : Option Arg) → with_arg at form o ≡ Ok i → i.at ≡ at
-    by_arg form None e = absurd (cc)
-    by_arg form (Some arg) e = let is : instr at form arg ≡ i = cc in sym (ap (λ j. j.at) is)
-
-    by_operand : (form : ℕ) (o : Option Operand) → with_operand code at form o ≡ Ok i → i.at ≡ at
-    by_operand form None e = absurd (cc)
-    by_operand form (Some operand) e = by_arg form (operand_at code (at + form_size form) operand) e
-
-    by_form : (o : Option ℕ) → with_form code at o ≡ Ok i → i.at ≡ at
-    by_form None e = absurd (cc)
-    by_form (Some form) e = by_operand form (operand_of form) e
 
 -- one of the instructions of a code is read where it begins, and has whatever all of them have
 record IsAt (code : List ℕ) (list : List Instr) (k : ℕ) : Type 0 where
@@ -87,7 +69,7 @@ found_at code at end k (i ∷ list) follow e = by_start (λ e1. found_at code (a
         let here : i.at ≡ k = eqb-true i.at k q in
         record {
           i = i;
-          read = subst (λ n. instr_at code n ≡ Ok i) (sym (at_is code at i follow.0) ∙ here) follow.0;
+          read = subst (λ n. instr_at code n ≡ Ok i) (sym (offset_is code at i follow.0) ∙ here) follow.0;
           here = here;
           all = λ p all. both_left (p i) (list_all p list) all;
         }
@@ -304,7 +286,7 @@ module _ {R H : Type 0} (store : Store R H) (world : World) (never : (heap : H) 
     where
       begins : (list : List Instr) → Follow m.code 0 list (length m.code) → is_start list 0 ≡ true
       begins [] f = absurd (omega (arith, f, v.some))
-      begins (i ∷ list) f = ap (λ b. b || list_any (λ j. j.at == 0) list) (eq-eqb i.at 0 (at_is m.code 0 i f.0))
+      begins (i ∷ list) f = ap (λ b. b || list_any (λ j. j.at == 0) list) (eq-eqb i.at 0 (offset_is m.code 0 i f.0))
 
       by_stack : (o : Option (List Kind)) → stack_at v.typing 0 ≡ o
           → option_map_or (λ stack. length stack == 0) o false ≡ true → IsTyped {R = R} v.instrs v.typing 0 []

@@ -15,7 +15,7 @@ use Rattle.type_world.specs.Typing.{is_typing, keeps, least_typing, meets_rule, 
 use Rattle.type_world.specs.Laws.{HasTyping, TypingsNarrow, UntypedIsFound}
 use Rattle.type_world.proofs.Bound.{both_left, both_right}
 use Rattle.type_world.proofs.Decoded.{whole}
-use Rattle.type_world.proofs.Runs.{at_is}
+use Rattle.cil_decode.proofs.Sizes.{offset_is}
 use Rattle.type_world.proofs.Rounds.{rounds_find_typings}
 
 both : (a b : Bool) → a ≡ true → b ≡ true → (a && b) ≡ true
@@ -93,7 +93,7 @@ some_found p i list e = by_first (p i)
 last_of : (code : List ℕ) (at end : ℕ) (i : Instr) (list : List Instr) → Follow code at (i ∷ list) end
     → (l : IsLast (i ∷ list)) × (at ≤ l.i.at)
 last_of code at end i [] follow =
-    let here = at_is code at i follow.0 in (
+    let here = offset_is code at i follow.0 in (
       record {
         i = i;
         all = both (nat_le i.at i.at) true (le-leb i.at i.at (omega arith)) refl;
@@ -102,7 +102,7 @@ last_of code at end i [] follow =
       omega (arith, here),
     )
 last_of code at end i (j ∷ list) follow =
-    let here = at_is code at i follow.0 in
+    let here = offset_is code at i follow.0 in
     let rest : (l : IsLast (j ∷ list)) × (at + instr_size i ≤ l.i.at) = last_of code (at + instr_size i) end j list follow.1 in
     let later = rest.1 in (
       record {

@@ -13,6 +13,7 @@ pub mod Soundness
 pub mod Laws
 pub mod Loading
 pub mod Kept
+pub mod RowIndex
 pub mod NameNumbers
 pub mod Placed
 pub mod BuiltIns

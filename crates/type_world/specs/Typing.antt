@@ -1,4 +1,4 @@
--- Typings of a method's code (ECMA-335 III.1.7.5 and III.1.8.1): which types are on the stack at each offset that is reached.
+-- Typings of a method's code (ECMA-335 III.1.8.1; stack states merge by III.1.8.1.3): which types are on the stack at each offset that is reached.
 use Rattle.std.specs.Prelude.{ℕ, zero, suc, ◌+◌, ◌*◌, ◌==◌, ◌&&◌, not, Bool, true, false, List, [], ◌∷◌, length, find}
 use Rattle.std.specs.Prelude.{fold, Option, Some, None, is_none, slice_get, if◌then◌else◌, nat_le, nat_lt}
 use Rattle.std.specs.Option.{option_map, option_map_or, option_and_then}

@@ -3,8 +3,6 @@
 ghost use Rattle.std.specs.Prelude.{◌≡◌, option_copied};
 ghost use Rattle.cli_assembly.specs.Kept.{answer_of, nth_row};
 
-use crate::identity::TypeId;
-
 /// The item of a row, from 1.
 #[tactic(auto, unfolding(cli_assembly::specs::Kept::nth_row))]
 pub(crate) fn nth_row<T>(items: &[T], row: u32) -> Option<&T>
@@ -17,9 +15,9 @@ pub(crate) fn nth_row<T>(items: &[T], row: u32) -> Option<&T>
     }
 }
 
-/// The type of a row, from 1, where it has one.
-pub(crate) fn answer_of(items: &[Option<TypeId>], row: u32) -> Option<TypeId>
-    ensures { result ≡ answer_of items.now row }
+/// The answer of a row, from 1, where it has one.
+pub(crate) fn answer_of<T>(items: &[Option<T>], row: u32) -> Option<&T>
+    ensures { option_copied result ≡ answer_of items.now row }
 {
-    *nth_row(items, row)?
+    nth_row(items, row)?.as_ref()
 }

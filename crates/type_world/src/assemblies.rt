@@ -3,11 +3,12 @@
 ghost use Rattle.std.specs.Prelude.{◌≡◌, ◌≤◌, ◌<◌, ◌^◌, None, Some, length, slice_get, take, option_copied, IfErr, IfOk, IfSome, OnOk};
 ghost use Rattle.type_world.specs.Loading.{IsRefused, world_of};
 ghost use Rattle.std.specs.Str.{bytes_eq};
-ghost use Rattle.type_world.specs.World.{IsWorld, assembly_in, name_in, duplicate_from, earlier_name, first_duplicate};
-ghost use Rattle.type_world.specs.NameNumbers.{type_numbers, world_numbers};
+ghost use Rattle.type_world.specs.World.{IsWorld, name_in, duplicate_from, earlier_name, first_duplicate};
+ghost use Rattle.type_world.specs.NameNumbers.{world_numbers};
 
-use crate::name_numbers::{TypeNumbers, number_all};
+use crate::name_numbers::{TypeNames, name_all};
 use crate::refusal::WorldRefusal;
+use crate::room::have_room;
 use cli_assembly::Assembly;
 use std::alloc::Global;
 use std::marker::Model;
@@ -56,7 +57,7 @@ fn first_duplicate(assemblies: &[Assembly]) -> Option<(usize, usize)>
 #[derive(Debug, Drop)]
 pub(crate) struct Assemblies {
     assemblies: Vec<Assembly>,
-    numbers: Vec<TypeNumbers>,
+    names: Vec<TypeNames>,
 }
 
 impl Model for Assemblies {
@@ -69,7 +70,7 @@ impl Model for Assemblies {
 
     ghost view = { λ w. w.assemblies.items };
 
-    ghost invariant = { λ w. IsWorld (world_of w.assemblies.items) × (w.numbers.items ≡ world_numbers (world_of w.assemblies.items)) };
+    ghost invariant = { λ w. IsWorld (world_of w.assemblies.items) × (w.names.items ≡ world_numbers (world_of w.assemblies.items)) };
 }
 
 impl Assemblies {
@@ -95,37 +96,31 @@ impl Assemblies {
         }
     }
 
-    /// Some assemblies that are those of a world, with the numbers of the names of their types.
+    /// Some assemblies that are those of a world, with their types by the numbers of their names. `NoMemory` comes where memory is refused,
+    /// and where what the rows of a file share comes to more than 32 times its bytes: that is asked before any name is read as a key.
     fn numbered(alloc: Global, list: Vec<Assembly>) -> Result<Assemblies, WorldRefusal>
         requires { IsWorld (world_of list.items) }
         ensures refused { IfErr result (IsRefused list.items) }
         ensures is_world { OnOk result (IsWorld (world_of list.items)) }
         ensures files { IfOk result (λ assemblies. assemblies ≡ list.items) }
     {
-        match number_all(alloc, &list) {
-            Ok(numbers) => Ok(Assemblies {
+        if !have_room(&list) {
+            return Err(WorldRefusal::NoMemory);
+        }
+        match name_all(alloc, &list) {
+            Ok(names) => Ok(Assemblies {
                 assemblies: list,
-                numbers,
+                names,
             }),
             Err(_) => Err(WorldRefusal::NoMemory),
         }
     }
 
-    /// The numbers of the names of the types of the assembly at a position, by row of TypeDef.
-    pub(crate) fn numbers_at(&self, asm: u8) -> &[u32]
-        ensures { result.now ≡ type_numbers (assembly_in (world_of self.now) asm) }
-    {
-        match self.numbers_of(asm) {
-            Some(numbers) => numbers.as_slice(),
-            None => &[],
-        }
-    }
-
-    /// What is kept of the assembly at a position. `None` exactly where there is none.
-    fn numbers_of(&self, asm: u8) -> Option<&TypeNumbers>
+    /// The types of the assembly at a position by the numbers of their names. `None` exactly where there is none.
+    pub(crate) fn names_of(&self, asm: u8) -> Option<&TypeNames>
         ensures { option_copied result ≡ slice_get (world_numbers (world_of self.now)) asm }
     {
-        self.numbers.get(asm as usize)
+        self.names.get(asm as usize)
     }
 
     /// How many assemblies there are.

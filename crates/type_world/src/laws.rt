@@ -16,7 +16,8 @@ ghost use Rattle.type_world.specs.Step.{act};
 ghost use Rattle.type_world.specs.Soundness.{HasKinds, Holds, Sound};
 ghost use Rattle.type_world.specs.State.{IsOver, Run, Value, no_objects};
 ghost use Rattle.type_world.specs.Run.{Reaches, cil, start};
-ghost use Rattle.type_world.specs.Laws.{RoundsFindTypings, TypedCodeRuns, TypingsNarrow, UntypedIsFound};
+ghost use Rattle.type_world.specs.Laws.{FirstUntypedIsFirst, RoundsFindTheLeast, RoundsFindTypings};
+ghost use Rattle.type_world.specs.Laws.{TypedCodeRuns, TypingsNarrow, UntypedIsFound};
 
 /// The law of codes: the instructions of a code are those that it is made of, and there are none where it can't be decoded.
 pub fn codes_are_instructions()
@@ -39,11 +40,19 @@ pub fn typings_meet_their_rules()
         → is_typing world method (length method.code) instrs typing ≡ true }
 {}
 
+/// The law of the least typing: the typing that the rounds come to has exactly the offsets that are reached, and its stacks fit those
+/// of every typing.
+pub fn rounds_find_the_least()
+    ensures { RoundsFindTheLeast }
+{}
+
 /// The law of code without a typing: there is an instruction up to which there is none, and a typing of a part of the code is one of each
-/// shorter part. So `NoTyping` has an offset, and a search by halves finds it.
+/// shorter part. So `NoTyping` has an offset, and a search by halves finds it. Up to that offset there is no typing, and there is one up
+/// to each earlier instruction.
 pub fn untyped_code_has_a_first_offset()
     ensures found { UntypedIsFound }
     ensures narrow { TypingsNarrow }
+    ensures first { FirstUntypedIsFirst }
 {}
 
 /// The law of typed code: where the values are those of the typing, what an instruction asks is what its rule says of it. So

@@ -39,6 +39,7 @@ mod refusal;
 mod repeated;
 mod resolved;
 mod room;
+mod row_index;
 mod rows;
 mod scope;
 mod shapes;
@@ -53,8 +54,9 @@ pub use ending::Ending;
 pub use identity::{BUILT_IN, FieldId, MethodId, TypeId};
 pub use kind::Kind;
 pub use laws::{
-    codes_are_instructions, rounds_find_typings, runs_end, typed_code_is_sound, typed_code_runs,
-    typings_meet_their_rules, untyped_code_has_a_first_offset,
+    codes_are_instructions, rounds_find_the_least, rounds_find_typings, runs_end,
+    typed_code_is_sound, typed_code_runs, typings_meet_their_rules,
+    untyped_code_has_a_first_offset,
 };
 pub use lookups::ProfileMethod;
 pub use place::{Place, Shape};

@@ -39,7 +39,7 @@ fn row_of_token(found: Option<u32>, table: Table) -> Option<u32>
 }
 
 /// Marks a row, where there is a mark for it.
-fn mark_at(marks: &mut [bool], row: usize)
+pub(crate) fn mark_at(marks: &mut [bool], row: usize)
     ensures { (k : ℕ) → k < length marks.old → get_or marks.new k false ≡ (get_or marks.old k false || row == k) }
 {
     if marks.len() <= row {

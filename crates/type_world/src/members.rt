@@ -1,6 +1,6 @@
 //! The methods that rows of MemberRef name (ECMA-335 II.22.25): by name and signature, in the parent and then up its base chain.
 
-ghost use Rattle.std.specs.Prelude.{◌≡◌, ◌≤◌, ◌<◌, ◌^◌, find, option_copied};
+ghost use Rattle.std.specs.Prelude.{◌≡◌, ◌<◌, find, option_copied};
 ghost use Rattle.cli_assembly.specs.Assemblies.{assembly_of, coded_token, column, member_method_signature, methods_of, rows_between};
 ghost use Rattle.std.specs.Option.{option_and_then};
 ghost use Rattle.metadata.specs.declared.schema.CodedKind.TheVariants as kinds;
@@ -9,13 +9,13 @@ ghost use Rattle.type_world.specs.Loading.{world_of};
 ghost use Rattle.type_world.specs.Members.{built_in_rows, first_in, has_signature, member_method, member_parent, where_looked};
 ghost use Rattle.type_world.specs.MethodRefs.{is_wanted, is_wanted_built_in, wanted_in};
 ghost use Rattle.type_world.specs.Resolution.{chain_of, resolve_type};
-ghost use Rattle.type_world.specs.World.{assembly_in, rows_of_world};
+ghost use Rattle.type_world.specs.World.{assembly_in};
 
 use crate::assemblies::Assemblies;
 use crate::base::Base;
 use crate::built_in::built_in;
 use crate::identity::{BUILT_IN, MethodId, TypeId};
-use crate::numbers::{BUILT_IN_METHODS, rows_of};
+use crate::numbers::BUILT_IN_METHODS;
 use crate::signatures::{same_class, same_id};
 use crate::types::Types;
 use cli_assembly::{Assembly, MethodSig};
@@ -58,14 +58,6 @@ impl Assemblies {
             Some(assembly) => assembly.member_method_sig(row),
             None => None,
         }
-    }
-
-    /// How many rows a table has in all assemblies.
-    pub(crate) fn rows_in_all(&self, table: Table) -> u32
-        ensures rows { result ≡ rows_of_world (world_of self.now) table }
-        ensures few { result ≤ 2 ^ 30 }
-    {
-        rows_of(self.assemblies_before(self.count()), table)
     }
 }
 
@@ -165,7 +157,7 @@ impl Types {
         let repeated = self.repeated(of);
         let mut at = of;
         let mut remembered = of;
-        for steps in 0..self.assemblies().rows_in_all(Table::TypeDef) + 1 {
+        for steps in 0..self.longest_chain() {
             if let Some(method) = self.method_in(wanted, at) {
                 return Some(method);
             }

@@ -1,12 +1,11 @@
 //! The methods that tokens name, resolved once as the world is made.
 
 ghost use Rattle.std.specs.Prelude.{◌≡◌, IfOk, option_copied, slice_get};
-ghost use Rattle.cli_assembly.specs.Kept.{answer_of};
 ghost use Rattle.type_world.specs.KeptMethods.{member_methods_in, member_methods_of};
 ghost use Rattle.type_world.specs.Loading.{world_of};
 ghost use Rattle.type_world.specs.Members.{member_method, resolve_method};
 
-use crate::answers::nth_row;
+use crate::answers::answer_of;
 use crate::identity::MethodId;
 use crate::profile::Profile;
 use crate::types::Types;
@@ -14,13 +13,6 @@ use metadata::Table;
 use rtr_bytes::{NoMemory, Sequence};
 use std::alloc::Global;
 use std::marker::Model;
-
-/// The answer of a row, from 1, where it has one.
-fn answer_of(methods: &[Option<MethodId>], row: u32) -> Option<MethodId>
-    ensures { result ≡ answer_of methods.now row }
-{
-    *nth_row(methods, row)?
-}
 
 impl Types {
     /// The methods that the rows of MemberRef of an assembly name, one answer for each row. Each row takes a search through the methods
@@ -102,7 +94,7 @@ impl Methods {
         ensures { result ≡ member_method (world_of self.now) asm row }
     {
         match self.members_at(asm) {
-            Some(members) => answer_of(members.as_slice(), row),
+            Some(members) => answer_of(members.as_slice(), row).copied(),
             None => None,
         }
     }

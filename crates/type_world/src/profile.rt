@@ -7,7 +7,7 @@ ghost use Rattle.type_world.specs.Loading.{as_method, world_of};
 ghost use Rattle.type_world.specs.Profile.{profile_method, profile_shape, shape_in_profile, type_in_profile};
 ghost use Rattle.type_world.specs.Profiled.{answers_in, answers_of, built_in_shapes, profile_locals};
 
-use crate::answers::nth_row;
+use crate::answers::answer_of;
 use crate::classes_in_profile::{Classes, item_at};
 use crate::identity::{BUILT_IN, MethodId, TypeId};
 use crate::lookups::ProfileMethod;
@@ -19,13 +19,6 @@ use metadata::Table;
 use rtr_bytes::{NoMemory, Sequence};
 use std::alloc::Global;
 use std::marker::Model;
-
-/// The answer of a row, from 1, where it has one.
-fn answer_of<T>(items: &[Option<T>], row: u32) -> Option<&T>
-    ensures { option_copied result ≡ answer_of items.now row }
-{
-    nth_row(items, row)?.as_ref()
-}
 
 /// Whether a row has a shape.
 fn has_shape(shapes: &[Option<Shape>], row: u32) -> bool
@@ -192,14 +185,10 @@ impl Model for Profile {
 }
 
 impl Profile {
-    /// What is in the profile, of some types. `NoMemory` comes where memory is refused, and where the names, codes and locals that rows of
-    /// TypeDef and of MethodDef have come to more than 32 times the bytes of their file, each as often as rows have it.
+    /// What is in the profile, of some types.
     pub(crate) fn new(alloc: Global, types: Types) -> Result<Profile, NoMemory>
         ensures { IfOk result (λ profile. profile ≡ types) }
     {
-        if !types.assemblies().have_room() {
-            return Err(NoMemory);
-        }
         let classes = Classes::new(alloc, types)?;
         let answered = classes.all_answered(alloc)?;
         let built_in = classes.built_in_shapes(alloc)?;

@@ -154,7 +154,9 @@ impl Assemblies {
         match self.scope_of(asm, row) {
             Scope::Module => self.in_assembly(namespace, name, Some(asm)),
             Scope::Reference(reference) => self.in_reference(asm, namespace, name, reference),
-            Scope::Enclosing(enclosing) => self.in_enclosing(name, answer_of(known, enclosing)),
+            Scope::Enclosing(enclosing) => {
+                self.in_enclosing(name, answer_of(known, enclosing).copied())
+            },
             Scope::Unresolved => None,
         }
     }
@@ -164,7 +166,7 @@ impl Assemblies {
         ensures { result ≡ next_ref (world_of self.now) asm known.now row }
     {
         match answer_of(known, row) {
-            Some(of) => Some(of),
+            Some(of) => Some(*of),
             None => self.by_scope(asm, row, known),
         }
     }

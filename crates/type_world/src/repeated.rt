@@ -8,7 +8,6 @@ use crate::base::Base;
 use crate::identity::TypeId;
 use crate::signatures::same_id;
 use crate::types::Types;
-use metadata::Table;
 
 impl Types {
     /// A type that the base chain of a type comes back to, where it comes back to one. One type of the chain is remembered, after twice as
@@ -20,7 +19,7 @@ impl Types {
         let mut at = of;
         let mut remembered = of;
         let mut next: u64 = 1;
-        for steps in 0..3 * self.assemblies().rows_in_all(Table::TypeDef) as u64 {
+        for steps in 0..3 * self.longest_chain() as u64 {
             match self.base_of(at) {
                 Base::Extends(base) => at = base,
                 _ => return None,

@@ -45,14 +45,14 @@ impl Resolved {
     pub(crate) fn type_ref(&self, row: u32) -> Option<TypeId>
         ensures { result ≡ answer_of self.now.type_refs row }
     {
-        answer_of(self.type_refs.as_slice(), row)
+        answer_of(self.type_refs.as_slice(), row).copied()
     }
 
     /// The type that declares a row of MethodDef.
     pub(crate) fn method_class(&self, row: u32) -> Option<TypeId>
         ensures { result ≡ answer_of self.now.method_classes row }
     {
-        answer_of(self.method_classes.as_slice(), row)
+        answer_of(self.method_classes.as_slice(), row).copied()
     }
 }
 

@@ -1,15 +1,18 @@
 //! How much is read of the methods and the names of all rows together. Rows may share a body, a signature of locals or a name.
 
-use crate::assemblies::Assemblies;
 use cli_assembly::Assembly;
 use metadata::Table;
 
 /// What the rows of a file share comes to at most so many times its bytes, each as often as rows have it.
 const MAX_SHARED: u64 = 32;
-/// TypeName, a column of TypeDef (ECMA-335 II.22.37).
+/// TypeName, a column of TypeDef and of TypeRef (ECMA-335 II.22.37 and II.22.38).
 const TYPE_NAME: u8 = 1;
-/// TypeNamespace, a column of TypeDef.
+/// TypeNamespace, a column of TypeDef and of TypeRef.
 const TYPE_NAMESPACE: u8 = 2;
+/// Name, a column of MemberRef (ECMA-335 II.22.25).
+const MEMBER_NAME: u8 = 1;
+/// NestedClass, a column of the table of that name (ECMA-335 II.22.32).
+const NESTED: u8 = 0;
 /// Name, a column of MethodDef (ECMA-335 II.22.26).
 const METHOD_NAME: u8 = 3;
 
@@ -54,13 +57,39 @@ fn methods_have_room(assembly: &Assembly, most: u64) -> bool {
     true
 }
 
-/// Whether the names of the rows of TypeDef have at most so many bytes.
-fn classes_have_room(assembly: &Assembly, most: u64) -> bool {
+/// Whether the names of the rows of TypeDef or of TypeRef have at most so many bytes.
+fn types_have_room(assembly: &Assembly, table: Table, most: u64) -> bool {
     let mut size: u64 = 0;
-    for index in 0..assembly.rows(Table::TypeDef) {
+    for index in 0..assembly.rows(table) {
         let row = index + 1;
-        size = size.saturating_add(length_of_text(assembly, Table::TypeDef, row, TYPE_NAME));
-        size = size.saturating_add(length_of_text(assembly, Table::TypeDef, row, TYPE_NAMESPACE));
+        size = size.saturating_add(length_of_text(assembly, table, row, TYPE_NAME));
+        size = size.saturating_add(length_of_text(assembly, table, row, TYPE_NAMESPACE));
+        if most < size {
+            return false;
+        }
+    }
+    true
+}
+
+/// Whether the names of the rows of MemberRef have at most so many bytes.
+fn members_have_room(assembly: &Assembly, most: u64) -> bool {
+    let mut size: u64 = 0;
+    for index in 0..assembly.rows(Table::MemberRef) {
+        let row = index + 1;
+        size = size.saturating_add(length_of_text(assembly, Table::MemberRef, row, MEMBER_NAME));
+        if most < size {
+            return false;
+        }
+    }
+    true
+}
+
+/// Whether the names of the types that the rows of NestedClass name as nested have at most so many bytes.
+fn nestings_have_room(assembly: &Assembly, most: u64) -> bool {
+    let mut size: u64 = 0;
+    for index in 0..assembly.rows(Table::NestedClass) {
+        let nested = assembly.column(Table::NestedClass, index + 1, NESTED);
+        size = size.saturating_add(length_of_text(assembly, Table::TypeDef, nested, TYPE_NAME));
         if most < size {
             return false;
         }
@@ -71,19 +100,19 @@ fn classes_have_room(assembly: &Assembly, most: u64) -> bool {
 /// Whether what the rows of an assembly share, each as often as rows have it, is not too large for its file.
 fn has_room(assembly: &Assembly) -> bool {
     let most = MAX_SHARED * assembly.bytes().len() as u64;
-    methods_have_room(assembly, most) && classes_have_room(assembly, most)
+    methods_have_room(assembly, most)
+        && types_have_room(assembly, Table::TypeDef, most)
+        && types_have_room(assembly, Table::TypeRef, most)
+        && members_have_room(assembly, most)
+        && nestings_have_room(assembly, most)
 }
 
-impl Assemblies {
-    /// Whether what the rows of each assembly share, each as often as rows have it, is not too large for its file.
-    pub(crate) fn have_room(&self) -> bool {
-        for asm in 0..self.count() {
-            if let Some(assembly) = self.assembly(asm) {
-                if !has_room(assembly) {
-                    return false;
-                }
-            }
+/// Whether what the rows of each assembly share, each as often as rows have it, is not too large for its file.
+pub(crate) fn have_room(assemblies: &[Assembly]) -> bool {
+    for assembly in assemblies {
+        if !has_room(assembly) {
+            return false;
         }
-        true
     }
+    true
 }

@@ -1,15 +1,16 @@
 //! Rows of TypeDef by their names, in any assembly (ECMA-335 II.22.32 and II.22.37).
 
-ghost use Rattle.std.specs.Prelude.{◌≡◌, ◌&&◌, not, find, option_copied};
+ghost use Rattle.std.specs.Prelude.{◌≡◌, ◌==◌, ◌&&◌, find, option_copied};
 ghost use Rattle.metadata.specs.declared.schema.Table.TheVariants as tables;
 ghost use Rattle.type_world.specs.Loading.{world_of};
-ghost use Rattle.type_world.specs.Resolution.{built_in_type, class_in, in_assembly, in_type, is_named, is_nested, nested_named, nests, type_named};
-ghost use Rattle.type_world.specs.World.{assembly_in, has_text, is_text, rows_in, text_at};
-ghost use Rattle.type_world.specs.NameNumbers.{name_number};
+ghost use Rattle.type_world.specs.Resolution.{built_in_type, class_in, in_assembly, in_type, is_named, nested_named, nests, type_named};
+ghost use Rattle.type_world.specs.World.{assembly_in, has_text, is_text, rows_in};
+ghost use Rattle.type_world.specs.NameNumbers.{nesting_numbers, outermost_numbers};
 
 use crate::assemblies::Assemblies;
 use crate::identity::TypeId;
-use crate::name_numbers::name_number;
+use crate::name_numbers::{nested_number, outermost_number};
+use crate::row_index::RowIndex;
 use metadata::Table;
 
 /// TypeName, a column of TypeDef (ECMA-335 II.22.37).
@@ -79,59 +80,29 @@ impl Assemblies {
             && self.names_text(Table::TypeDef, asm, row, TYPE_NAMESPACE, namespace)
     }
 
-    /// Whether a row of NestedClass names a row of TypeDef as nested.
-    fn is_nested(&self, asm: u8, row: u32) -> bool
-        ensures { result ≡ is_nested (assembly_in (world_of self.now) asm) row }
+    /// The first row of TypeDef of a namespace and a name that isn't nested, among the rows by their numbers.
+    fn outermost_among(&self, rows: &RowIndex, asm: u8, namespace: &str, name: &str) -> Option<u32>
+        requires { rows.now ≡ outermost_numbers (assembly_in (world_of self.now) asm) }
+        ensures { result ≡ type_named (assembly_in (world_of self.now) asm) namespace.now name.now }
     {
-        for before in 0..self.rows_at(Table::NestedClass, asm) {
-            if self.column_at(Table::NestedClass, asm, before + 1, NESTED) == row {
-                return true;
+        let mut at = rows.first(outermost_number(namespace, name));
+        'rows: while let Some(row) = at {
+            if self.is_named(asm, row, namespace, name) {
+                return Some(row);
             }
+            at = rows.next(row);
         }
-        false
-    }
-
-    /// Whether a row of TypeDef has a namespace and a name, and isn't nested.
-    fn is_outermost(&self, asm: u8, row: u32, namespace: &str, name: &str) -> bool
-        ensures { result ≡ (is_named (assembly_in (world_of self.now) asm) row namespace.now name.now && not (is_nested (assembly_in (world_of self.now) asm) row)) }
-    {
-        self.is_named(asm, row, namespace, name) && !self.is_nested(asm, row)
-    }
-
-    /// The same, with the number of the row's name and the number of the name that is looked for.
-    fn is_found(
-        &self,
-        asm: u8,
-        row: u32,
-        namespace: &str,
-        name: &str,
-        own: u32,
-        number: u32,
-    ) -> bool
-        requires own { own ≡ name_number (text_at (assembly_in (world_of self.now) asm) tables.TypeDef row 1) }
-        requires number { number ≡ name_number name.now }
-        ensures { result ≡ (is_named (assembly_in (world_of self.now) asm) row namespace.now name.now && not (is_nested (assembly_in (world_of self.now) asm) row)) }
-    {
-        if own != number {
-            return false;
-        }
-        self.is_outermost(asm, row, namespace, name)
+        None
     }
 
     /// The first row of TypeDef of a namespace and a name that isn't nested.
-    #[tactic(auto, unfolding(crate::specs::Resolution::type_named))]
     fn type_named(&self, asm: u8, namespace: &str, name: &str) -> Option<u32>
         ensures { result ≡ type_named (assembly_in (world_of self.now) asm) namespace.now name.now }
     {
-        let numbers = self.numbers_at(asm);
-        let number = name_number(name.as_bytes());
-        for before in 0..self.rows_at(Table::TypeDef, asm) {
-            let own = numbers[before as usize];
-            if self.is_found(asm, before + 1, namespace, name, own, number) {
-                return Some(before + 1);
-            }
+        match self.names_of(asm) {
+            Some(names) => self.outermost_among(names.outermost(), asm, namespace, name),
+            None => None,
         }
-        None
     }
 
     /// Whether a row of NestedClass names a type of a name as nested in another one.
@@ -143,16 +114,29 @@ impl Assemblies {
             && self.names_text(Table::TypeDef, asm, nested, TYPE_NAME, name)
     }
 
+    /// The first row of NestedClass that names a type of a name as nested in another one, among the rows by their numbers.
+    fn nesting_among(&self, rows: &RowIndex, asm: u8, enclosing: u32, name: &str) -> Option<u32>
+        requires { rows.now ≡ nesting_numbers (assembly_in (world_of self.now) asm) }
+        ensures { result ≡ find (nests (assembly_in (world_of self.now) asm) enclosing name.now) (rows_in (assembly_in (world_of self.now) asm) tables.NestedClass) }
+    {
+        let mut at = rows.first(nested_number(enclosing, name));
+        'rows: while let Some(nesting) = at {
+            if self.nests(asm, enclosing, name, nesting) {
+                return Some(nesting);
+            }
+            at = rows.next(nesting);
+        }
+        None
+    }
+
     /// The first row of NestedClass that names a type of a name as nested in another one.
     fn nesting_named(&self, asm: u8, enclosing: u32, name: &str) -> Option<u32>
         ensures { result ≡ find (nests (assembly_in (world_of self.now) asm) enclosing name.now) (rows_in (assembly_in (world_of self.now) asm) tables.NestedClass) }
     {
-        for before in 0..self.rows_at(Table::NestedClass, asm) {
-            if self.nests(asm, enclosing, name, before + 1) {
-                return Some(before + 1);
-            }
+        match self.names_of(asm) {
+            Some(names) => self.nesting_among(names.nestings(), asm, enclosing, name),
+            None => None,
         }
-        None
     }
 
     /// The row of TypeDef of a name that the first such row of NestedClass names as nested in another one.

@@ -1,6 +1,7 @@
-use Rattle.std.proofs.Common.{ap, ◌∙◌, ◌∷◌, arith}
+use Rattle.std.proofs.Common.{ap, ◌∙◌, ◌∷◌, None, refl, arith}
 use Rattle.native_format.specs.Nibbles.{slots_of, at_slot}
 use Rattle.native_format.specs.NibbleSteps.{numbers_from}
+use Rattle.native_format.proofs.NibbleLaws.{after_both}
 use Rattle.native_format.proofs.SlotLaws.{no_section, no_slot, reads, slots_of_two}
 use Rattle.native_format.proofs.nibble_reader.first_slot.Goals as goal
 
@@ -20,6 +21,7 @@ returns c =
     let two = c.in_ok-slot.ensures in
     let behind = numbers_from c.args.bytes.now c.in_ok-slot.at in
     let both = one.numbers_are ∙ ap (λ ns. c.in_ok-section.section ∷ ns) two.numbers_are in
-    reads c.args.bytes.now (slots_of (numbers_from c.args.bytes.now c.args.start)) c.args.start c.in_ok-slot.at
+    reads c.args.bytes.now (slots_of (numbers_from c.args.bytes.now c.args.start)) None c.args.start c.in_ok-slot.at 2
     (at_slot c.in_ok-section.section c.in_ok-slot.slot) (omega (arith, one.further, two.further)) two.within (one.fits, two.fits)
-    (ap slots_of both ∙ slots_of_two c.in_ok-section.section c.in_ok-slot.slot behind)
+    (ap slots_of both ∙ slots_of_two c.in_ok-section.section c.in_ok-slot.slot behind) refl
+    (after_both c.args.bytes.now c.args.start c.in_ok-section.at c.in_ok-slot.at 1 1 one.after_is two.after_is)

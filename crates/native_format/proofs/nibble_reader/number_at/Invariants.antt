@@ -1,6 +1,6 @@
 use Rattle.std.proofs.Common.{◌≡◌, ◌-◌, ◌*◌, ◌^◌, ◌<◌, ◌≤◌, drop, length}
 use Rattle.native_format.specs.Nibbles.{nibbles, numbers_after}
-use Rattle.native_format.specs.NibbleSteps.{numbers_from}
+use Rattle.native_format.specs.NibbleSteps.{nibble_after, numbers_from}
 use Rattle.native_format.proofs.nibble_reader.number_at.Given as goal
 
 -- the nibbles so far are upper bits of the number that begins at the start
@@ -9,6 +9,7 @@ invariant-loop-at l = record {
   further : l.start ≤ l.at;
   narrow : l.value < 2 ^ 32;
   numbers_are : numbers_after l.value (drop l.at (nibbles l.bytes)) ≡ numbers_from l.bytes l.start;
+  same_end : nibble_after 1 l.bytes l.at ≡ nibble_after 1 l.bytes l.start;
 }
 
 abbrev pub decreases-loop-at : goal.decreases-loop-at

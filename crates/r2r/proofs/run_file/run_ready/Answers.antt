@@ -1,10 +1,9 @@
-use Rattle.std.proofs.Common.{◌≡◌, List, All, true, false, length, map, sym, ap, subst, ◌∙◌, arith}
-use Rattle.std.proofs.lemmas.List.{length-map}
+use Rattle.std.proofs.Common.{List, All, true, false, sym, ap, subst, ◌∙◌}
 use Rattle.std.specs.List.{list_all}
 use Rattle.type_world.specs.Loading.{world_of}
 use Rattle.rtr_runner.specs.Workers.{IsReady, WorkerState, ran_in}
 use Rattle.r2r.specs.Printing.{has_returned}
-use Rattle.r2r.proofs.RunPrinted.{each_ready, printed_cut, printed_whole, written_back}
+use Rattle.r2r.proofs.RunPrinted.{all_written, each_ready, printed_cut, printed_whole}
 use Rattle.r2r.proofs.run_file.run_ready.Goals as goal
 
 pub run_all-requires-clause-ready : goal.run_all-requires-clause-ready
@@ -17,12 +16,8 @@ pub returns-then-all_returned-clause-printed : goal.returns-then-all_returned-cl
 returns-then-all_returned-clause-printed g c =
     let sink = g.S.Sink in
     let ready = c.args.ready in
-    let long = ap (λ (ws : List WorkerState). length ws) c.run_all.ensures
-    ∙ length-map c.deref_mut.result.now (ran_in (world_of ready.world))
-    ∙ ap (λ (ws : List WorkerState). length ws) c.deref_mut.ensures.value in
-    let same : length c.run_all.new.workers ≡ ready.workers.len = omega (arith, long, ready.workers.ok.0) in
-    let ran = c.deref.ensures.value ∙ written_back ready.workers.len c.run_all.new.workers ready.workers.items same ∙ c.run_all.ensures
-    ∙ ap (map (ran_in (world_of ready.world))) c.deref_mut.ensures.value in
+    let ran = all_written (ran_in (world_of ready.world)) ready.workers c.deref_mut.result.now c.run_all.new.workers c.deref.result.now
+    c.deref_mut.ensures.value c.run_all.ensures c.deref.ensures.value in
     let returned = ap (λ (ws : List WorkerState). list_all has_returned ws) (c.deref.ensures.value ∙ sym c.deref-in-Ok.ensures.value)
     ∙ sym c.all_returned.ensures ∙ c.if-all_returned.true in
     printed_whole c.args.words.now ready.world ready c.requires.ready c.runs_end.ensures c.deref.result.now ran sink.written sink.faults
@@ -32,12 +27,8 @@ pub returns-in-Ok-clause-printed : goal.returns-in-Ok-clause-printed
 returns-in-Ok-clause-printed g c =
     let sink = g.S.Sink in
     let ready = c.args.ready in
-    let long = ap (λ (ws : List WorkerState). length ws) c.run_all.ensures
-    ∙ length-map c.deref_mut.result.now (ran_in (world_of ready.world))
-    ∙ ap (λ (ws : List WorkerState). length ws) c.deref_mut.ensures.value in
-    let same : length c.run_all.new.workers ≡ ready.workers.len = omega (arith, long, ready.workers.ok.0) in
-    let ran = c.deref.ensures.value ∙ written_back ready.workers.len c.run_all.new.workers ready.workers.items same ∙ c.run_all.ensures
-    ∙ ap (map (ran_in (world_of ready.world))) c.deref_mut.ensures.value in
+    let ran = all_written (ran_in (world_of ready.world)) ready.workers c.deref_mut.result.now c.run_all.new.workers c.deref.result.now
+    c.deref_mut.ensures.value c.run_all.ensures c.deref.ensures.value in
     let returned = ap (λ (ws : List WorkerState). list_all has_returned ws) (c.deref.ensures.value ∙ sym c.deref-in-Ok.ensures.value)
     ∙ sym c.all_returned.ensures ∙ c.if-all_returned.false in
     printed_whole c.args.words.now ready.world ready c.requires.ready c.runs_end.ensures c.deref.result.now ran sink.written sink.faults
@@ -47,11 +38,7 @@ pub returns-clause-printed : goal.returns-clause-printed
 returns-clause-printed g c =
     let sink = g.S.Sink in
     let ready = c.args.ready in
-    let long = ap (λ (ws : List WorkerState). length ws) c.run_all.ensures
-    ∙ length-map c.deref_mut.result.now (ran_in (world_of ready.world))
-    ∙ ap (λ (ws : List WorkerState). length ws) c.deref_mut.ensures.value in
-    let same : length c.run_all.new.workers ≡ ready.workers.len = omega (arith, long, ready.workers.ok.0) in
-    let ran = c.deref.ensures.value ∙ written_back ready.workers.len c.run_all.new.workers ready.workers.items same ∙ c.run_all.ensures
-    ∙ ap (map (ran_in (world_of ready.world))) c.deref_mut.ensures.value in
+    let ran = all_written (ran_in (world_of ready.world)) ready.workers c.deref_mut.result.now c.run_all.new.workers c.deref.result.now
+    c.deref_mut.ensures.value c.run_all.ensures c.deref.ensures.value in
     printed_cut c.args.words.now ready.world ready c.requires.ready c.runs_end.ensures c.deref.result.now ran sink.written sink.faults
     c.args.out.now c.write_workers.new.out c.in-Err.ensures.written

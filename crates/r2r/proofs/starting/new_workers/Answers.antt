@@ -1,4 +1,4 @@
-use Rattle.std.proofs.Common.{◌<◌, ◌∷◌, ◌++◌, [], ℕ, ℤ, List, length, map, take, sym, ap, ◌∙◌, arith, vec_items}
+use Rattle.std.proofs.Common.{◌<◌, ◌∷◌, ◌++◌, [], List, length, map, take, sym, ap, ◌∙◌, arith, vec_items}
 use Rattle.type_world.specs.Entries.{can_start}
 use Rattle.type_world.specs.Loading.{world_of}
 use Rattle.rtr_runner.specs.Workers.{WorkerState, new_worker}

@@ -1,4 +1,4 @@
-use Rattle.std.proofs.Common.{ℕ, List, Option, length, sym, ap, subst, ◌∙◌}
+use Rattle.std.proofs.Common.{◌≤◌, ◌*◌, ℕ, List, Option, length, sym, ap, subst, ◌∙◌}
 use Rattle.std.proofs.lemmas.Result.{err_from_is_err_and}
 use Rattle.rtr_bytes.specs.declared.fault.Fault.{Fault}
 use Rattle.rtr_bytes.specs.Checks.{RefusedBy}
@@ -6,6 +6,7 @@ use Rattle.pe_image.specs.Headers.{Headers, headers_of}
 use Rattle.rtr_sections.specs.declared.image.Image.{Image}
 use Rattle.cli_assembly.specs.Assemblies.{assembly_of}
 use Rattle.r2rdump.specs.OnePass.{text_in_one_pass}
+use Rattle.r2rdump.specs.Types.{assembly_lines}
 use Rattle.r2rdump.proofs.Lowest.{first_of_pe, read_with}
 use Rattle.r2rdump.proofs.SlotsOfSections.{one_pass-is}
 use Rattle.r2rdump.proofs.dump.text_of.Goals as goal
@@ -34,12 +35,17 @@ returns-clause-well_formed c =
     c.in_ok-assembly.ensures.well_formed
     ∙ c.in_ok-image.ensures.well_formed
 
+pub returns-clause-room : goal.returns-clause-room
+returns-clause-room c =
+    subst (λ (file : List ℕ). length (assembly_lines (assembly_of file)) ≤ 32 * length file) c.in_ok-assembly.ensures.bytes
+    c.in_ok-text.ensures.room
+
 pub returns-clause-text : goal.returns-clause-text
 returns-clause-text c =
     let name = c.args.name.now in
     let bytes = c.args.bytes.now in
     let image = c.in_ok-image.image in
-    c.in_ok-text.ensures
+    c.in_ok-text.ensures.text
     ∙ ap (λ (file : List ℕ). text_in_one_pass name (length file) c.in_ok-pe.pe image (assembly_of file)) c.in_ok-assembly.ensures.bytes
     ∙ ap (λ (t : Headers). text_in_one_pass name (length bytes) t image (assembly_of bytes)) c.in_ok-pe.ensures.headers
     ∙ ap (λ (t : Option Image). text_in_one_pass name (length bytes) (headers_of bytes) t (assembly_of bytes)) c.in_ok-image.ensures.image

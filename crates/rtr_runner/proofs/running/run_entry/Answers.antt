@@ -15,9 +15,10 @@ run-requires c = record {
 pub returns-in-End : goal.returns-in-End
 returns-in-End c = record {
   ends = λ begun.
-      from_none (world_of c.args.world.now) c.args.frames.now c.requires.none c.args.entry
-      (passed (world_of c.args.world.now) c.args.entry c.args.words.now) c.args.memory.now c.args.ticks begun c.args.memory.now c.in-End.ending
-      (ends_at_once (world_of c.args.world.now) begun c.args.memory.now c.in-End.ending _ (c.in-End.ensures.entered c.args.memory.now begun));
+      let world = world_of c.args.world.now in
+      from_none world c.args.frames.now c.requires.none c.args.entry
+      (passed world c.args.entry c.args.words.now) c.args.memory.now c.args.ticks begun c.args.memory.now c.in-End.ending
+      (ends_at_once world begun c.args.memory.now c.in-End.ending _ (c.in-End.ensures.entered c.args.memory.now begun));
 }
 
 pub returns-in_default : goal.returns-in_default

@@ -1,17 +1,14 @@
-use Rattle.std.proofs.Common.{sym, ◌∙◌, arith}
-use Rattle.metadata.specs.declared.schema.Table.TheVariants as tables
-use Rattle.cli_assembly.specs.Assemblies.{row_count}
+use Rattle.std.proofs.Common.{sym, ap, ◌∙◌, option_copied}
 use Rattle.type_world.specs.Loading.{world_of}
-use Rattle.type_world.specs.Resolution.{nests}
-use Rattle.type_world.specs.World.{assembly_in}
-use Rattle.type_world.proofs.FullNames.{row_passed}
+use Rattle.type_world.proofs.OtherNames.{kept_nestings, no_nestings}
 use Rattle.type_world.proofs.assemblies.Assemblies.nesting_named.Goals as goal
 
-pub loop-before-preserved : goal.loop-before-preserved
-loop-before-preserved c =
-    let rows = c.rows_at-before-end.ensures.rows in
-    let below = c.loop-before-test.true in
-    let assembly = assembly_in (world_of c.args.self.now) c.args.asm in
-    c.loop-before.invariant
-    ∙ row_passed (nests assembly c.args.enclosing c.args.name.now) c.loop-before.before
-    (row_count assembly tables.NestedClass) (omega (arith, rows, below)) (sym c.nests.ensures ∙ c.if-nests.false)
+pub nesting_among-requires : goal.nesting_among-requires
+nesting_among-requires c =
+    c.nestings.ensures ∙ kept_nestings (world_of c.args.self.now) c.args.asm c.in-Some.names.now
+    (sym c.names_of.ensures ∙ ap option_copied c.in-Some.is)
+
+pub returns-in-None : goal.returns-in-None
+returns-in-None c =
+    no_nestings (world_of c.args.self.now) c.args.asm c.args.enclosing c.args.name.now
+    (sym c.names_of.ensures ∙ ap option_copied c.in-None.is)

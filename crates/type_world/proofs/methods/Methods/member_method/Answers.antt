@@ -6,7 +6,7 @@ use Rattle.type_world.proofs.methods.Methods.member_method.Goals as goal
 
 pub returns-in-Some : goal.returns-in-Some
 returns-in-Some c =
-    c.answer_of.ensures ∙ ap (λ l. answer_of l c.args.row) c.as_slice.ensures
+    c.copied.ensures ∙ c.answer_of.ensures ∙ ap (λ l. answer_of l c.args.row) c.as_slice.ensures
     ∙ member_is (world_of c.args.self.now) c.args.asm c.args.row c.in-Some.members.now
     (sym c.members_at.ensures ∙ ap option_copied c.in-Some.is)
 

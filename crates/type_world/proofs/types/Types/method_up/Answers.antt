@@ -14,8 +14,7 @@ pub returns-in-Some : goal.returns-in-Some
 returns-in-Some c =
     let world = world_of c.args.self.now in
     let look = wanted_in world c.args.wanted.now in
-    let rows : c.rows_in_all-steps-end.result ≡ rows_of_world (world_of c.args.self.now) tables.TypeDef =
-    c.rows_in_all-steps-end.ensures.rows ∙ ap (λ files. rows_of_world (world_of files) tables.TypeDef) c.assemblies.ensures in
+    let rows = c.longest_chain-steps-end.ensures.most in
     let test = c.loop-steps-test.true in
     let below : c.loop-steps.steps < rows_of_world (world_of c.args.self.now) tables.TypeDef + 1 = omega (arith, rows, test) in
     up_found world look c.loop-steps.at (rows_of_world world tables.TypeDef + 1) c.loop-steps.steps c.in-Some.method below
@@ -26,8 +25,7 @@ pub returns-in_default-base_of : goal.returns-in_default-base_of
 returns-in_default-base_of c =
     let world = world_of c.args.self.now in
     let look = wanted_in world c.args.wanted.now in
-    let rows : c.rows_in_all-steps-end.result ≡ rows_of_world (world_of c.args.self.now) tables.TypeDef =
-    c.rows_in_all-steps-end.ensures.rows ∙ ap (λ files. rows_of_world (world_of files) tables.TypeDef) c.assemblies.ensures in
+    let rows = c.longest_chain-steps-end.ensures.most in
     let test = c.loop-steps-test.true in
     let below : c.loop-steps.steps < rows_of_world (world_of c.args.self.now) tables.TypeDef + 1 = omega (arith, rows, test) in
     up_end world look c.loop-steps.at (rows_of_world world tables.TypeDef + 1) c.loop-steps.steps below
@@ -38,8 +36,7 @@ pub returns-then-same_id : goal.returns-then-same_id
 returns-then-same_id c =
     let world = world_of c.args.self.now in
     let look = wanted_in world c.args.wanted.now in
-    let rows : c.rows_in_all-steps-end.result ≡ rows_of_world (world_of c.args.self.now) tables.TypeDef =
-    c.rows_in_all-steps-end.ensures.rows ∙ ap (λ files. rows_of_world (world_of files) tables.TypeDef) c.assemblies.ensures in
+    let rows = c.longest_chain-steps-end.ensures.most in
     let test = c.loop-steps-test.true in
     let below : c.loop-steps.steps < rows_of_world (world_of c.args.self.now) tables.TypeDef + 1 = omega (arith, rows, test) in
     let extends : base_of (world_of c.args.self.now) c.loop-steps.at ≡ Extends c.in-Extends.base = sym c.base_of.ensures
@@ -57,8 +54,7 @@ loop-steps-preserved c =
     let world = world_of c.args.self.now in
     let look = wanted_in world c.args.wanted.now in
     let base = c.in-Extends.base in
-    let rows : c.rows_in_all-steps-end.result ≡ rows_of_world (world_of c.args.self.now) tables.TypeDef =
-    c.rows_in_all-steps-end.ensures.rows ∙ ap (λ files. rows_of_world (world_of files) tables.TypeDef) c.assemblies.ensures in
+    let rows = c.longest_chain-steps-end.ensures.most in
     let test = c.loop-steps-test.true in
     let below : c.loop-steps.steps < rows_of_world (world_of c.args.self.now) tables.TypeDef + 1 = omega (arith, rows, test) in
     let extends : base_of (world_of c.args.self.now) c.loop-steps.at ≡ Extends c.in-Extends.base = sym c.base_of.ensures
@@ -82,8 +78,7 @@ pub returns : goal.returns
 returns c =
     let world = world_of c.args.self.now in
     let look = wanted_in world c.args.wanted.now in
-    let rows : c.rows_in_all-steps-end.result ≡ rows_of_world (world_of c.args.self.now) tables.TypeDef =
-    c.rows_in_all-steps-end.ensures.rows ∙ ap (λ files. rows_of_world (world_of files) tables.TypeDef) c.assemblies.ensures in
+    let rows = c.longest_chain-steps-end.ensures.most in
     let test = c.loop-steps-test.false in
     let past : rows_of_world (world_of c.args.self.now) tables.TypeDef + 1 ≤ c.loop-steps.steps = omega (arith, rows, test) in
     up_done world look c.loop-steps.at (rows_of_world world tables.TypeDef + 1) c.loop-steps.steps past ∙ sym c.loop-steps.invariant.same

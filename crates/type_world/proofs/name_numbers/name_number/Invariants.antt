@@ -1,6 +1,0 @@
-use Rattle.std.proofs.Common.{◌≡◌, ◌<◌, drop}
-use Rattle.type_world.specs.NameNumbers.{number_from}
-use Rattle.type_world.proofs.name_numbers.name_number.Given as goal
-
-abbrev pub invariant-loop-byte : goal.invariant-loop-byte
-invariant-loop-byte l = (number_from 0 l.name ≡ number_from l.number (drop l.byte-index l.name)) × (l.number < 16777213)
