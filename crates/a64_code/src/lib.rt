@@ -16,6 +16,3 @@ pub use decoding::decode;
 pub use encoding::encode;
 pub use inst::Inst;
 pub use laws::{rows_fix_bits, words_read_back};
-
-#[cfg(test)]
-mod tests;

@@ -26,8 +26,3 @@ pub use builder::Builder;
 pub use draft::{Draft, DraftRefusal};
 pub use finish::BuildRefusal;
 pub use tested::can_new;
-
-#[cfg(test)]
-mod example;
-#[cfg(test)]
-mod tests;

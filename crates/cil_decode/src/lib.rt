@@ -12,8 +12,6 @@ mod opcode;
 mod operand;
 mod operation;
 mod starts;
-#[cfg(test)]
-mod tests;
 
 pub use body::{BodyRefusal, decode_body};
 pub use encode::encode_body;

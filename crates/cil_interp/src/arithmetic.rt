@@ -2,12 +2,12 @@
 
 ghost use Rattle.std.specs.Prelude.{◌≡◌, ◌<◌, ◌^◌, Ok, Err};
 ghost use Rattle.std.specs.Int.{w32, w64};
-ghost use Rattle.type_world.specs.Arithmetic.{binary, checked_binary, compares, inverted, narrowed, negated, shifted};
+ghost use Rattle.cil_meaning.specs.Arithmetic.{binary, checked_binary, compares, inverted, narrowed, negated, shifted};
 ghost use Rattle.cil_interp.specs.Words.{bits_of, converted, exact_of, kept_word, number, result_of};
 
 use crate::code::Width;
 use cil_decode::{BinaryOperator, CheckedOperator, Comparison, IntegerType, ShiftOperator};
-use type_world::Ending;
+use cil_meaning::Ending;
 
 /// The low bits of a word, as a number of 32 bits.
 fn low(word: u64) -> u32
@@ -27,7 +27,7 @@ pub(crate) fn number(width: Width, word: u64) -> u64
 }
 
 /// Two numbers of 32 bits by an operator that wraps. Division by zero ends the run, and so does that of the least number by -1.
-#[tactic(auto, unfolding(type_world::specs::Arithmetic::binary, crate::specs::Words::result_of))]
+#[tactic(auto, unfolding(cil_meaning::specs::Arithmetic::binary, crate::specs::Words::result_of))]
 fn binary_u32(operator: BinaryOperator, x: u32, y: u32) -> Result<u32, Ending>
     ensures { result ≡ result_of (binary w32 operator x y) }
 {
@@ -46,7 +46,7 @@ fn binary_u32(operator: BinaryOperator, x: u32, y: u32) -> Result<u32, Ending>
 }
 
 /// The quotient of signed numbers, toward zero.
-#[tactic(auto, unfolding(type_world::specs::Arithmetic::binary, crate::specs::Words::result_of))]
+#[tactic(auto, unfolding(cil_meaning::specs::Arithmetic::binary, crate::specs::Words::result_of))]
 fn divided_u32(x: u32, y: u32) -> Result<u32, Ending>
     ensures { result ≡ result_of (binary w32 BinaryOperator.Divide x y) }
 {
@@ -60,7 +60,7 @@ fn divided_u32(x: u32, y: u32) -> Result<u32, Ending>
 }
 
 /// The remainder of signed numbers.
-#[tactic(auto, unfolding(type_world::specs::Arithmetic::binary, crate::specs::Words::result_of))]
+#[tactic(auto, unfolding(cil_meaning::specs::Arithmetic::binary, crate::specs::Words::result_of))]
 fn remainder_u32(x: u32, y: u32) -> Result<u32, Ending>
     ensures { result ≡ result_of (binary w32 BinaryOperator.Remainder x y) }
 {
@@ -84,7 +84,7 @@ fn exact_u32(z: Option<i32>) -> Result<u32, Ending>
 }
 
 /// Two numbers of 32 bits by an operator that ends the run where the exact result is out of range.
-#[tactic(auto, unfolding(type_world::specs::Arithmetic::checked_binary, crate::specs::Words::result_of))]
+#[tactic(auto, unfolding(cil_meaning::specs::Arithmetic::checked_binary, crate::specs::Words::result_of))]
 fn checked_u32(operator: CheckedOperator, x: u32, y: u32) -> Result<u32, Ending>
     ensures { result ≡ result_of (checked_binary w32 operator x y) }
 {
@@ -99,7 +99,7 @@ fn checked_u32(operator: CheckedOperator, x: u32, y: u32) -> Result<u32, Ending>
 }
 
 /// A number of 32 bits, shifted by a count modulo 32.
-#[tactic(auto, unfolding(type_world::specs::Arithmetic::shifted))]
+#[tactic(auto, unfolding(cil_meaning::specs::Arithmetic::shifted))]
 fn shifted_u32(operator: ShiftOperator, x: u32, count: u32) -> u32
     ensures { result ≡ shifted w32 operator x count }
 {
@@ -111,7 +111,7 @@ fn shifted_u32(operator: ShiftOperator, x: u32, count: u32) -> u32
 }
 
 /// Whether two numbers of 32 bits compare so.
-#[tactic(auto, unfolding(type_world::specs::Arithmetic::compares))]
+#[tactic(auto, unfolding(cil_meaning::specs::Arithmetic::compares))]
 fn compares_u32(comparison: Comparison, x: u32, y: u32) -> bool
     ensures { result ≡ compares w32 comparison x y }
 {
@@ -130,7 +130,7 @@ fn compares_u32(comparison: Comparison, x: u32, y: u32) -> bool
 }
 
 /// Two numbers of 64 bits by an operator that wraps. Division by zero ends the run, and so does that of the least number by -1.
-#[tactic(auto, unfolding(type_world::specs::Arithmetic::binary, crate::specs::Words::result_of))]
+#[tactic(auto, unfolding(cil_meaning::specs::Arithmetic::binary, crate::specs::Words::result_of))]
 fn binary_u64(operator: BinaryOperator, x: u64, y: u64) -> Result<u64, Ending>
     ensures { result ≡ result_of (binary w64 operator x y) }
 {
@@ -149,7 +149,7 @@ fn binary_u64(operator: BinaryOperator, x: u64, y: u64) -> Result<u64, Ending>
 }
 
 /// The quotient of signed numbers, toward zero.
-#[tactic(auto, unfolding(type_world::specs::Arithmetic::binary, crate::specs::Words::result_of))]
+#[tactic(auto, unfolding(cil_meaning::specs::Arithmetic::binary, crate::specs::Words::result_of))]
 fn divided_u64(x: u64, y: u64) -> Result<u64, Ending>
     ensures { result ≡ result_of (binary w64 BinaryOperator.Divide x y) }
 {
@@ -163,7 +163,7 @@ fn divided_u64(x: u64, y: u64) -> Result<u64, Ending>
 }
 
 /// The remainder of signed numbers.
-#[tactic(auto, unfolding(type_world::specs::Arithmetic::binary, crate::specs::Words::result_of))]
+#[tactic(auto, unfolding(cil_meaning::specs::Arithmetic::binary, crate::specs::Words::result_of))]
 fn remainder_u64(x: u64, y: u64) -> Result<u64, Ending>
     ensures { result ≡ result_of (binary w64 BinaryOperator.Remainder x y) }
 {
@@ -187,7 +187,7 @@ fn exact_u64(z: Option<i64>) -> Result<u64, Ending>
 }
 
 /// Two numbers of 64 bits by an operator that ends the run where the exact result is out of range.
-#[tactic(auto, unfolding(type_world::specs::Arithmetic::checked_binary, crate::specs::Words::result_of))]
+#[tactic(auto, unfolding(cil_meaning::specs::Arithmetic::checked_binary, crate::specs::Words::result_of))]
 fn checked_u64(operator: CheckedOperator, x: u64, y: u64) -> Result<u64, Ending>
     ensures { result ≡ result_of (checked_binary w64 operator x y) }
 {
@@ -202,7 +202,7 @@ fn checked_u64(operator: CheckedOperator, x: u64, y: u64) -> Result<u64, Ending>
 }
 
 /// A number of 64 bits, shifted by a count modulo 64.
-#[tactic(auto, unfolding(type_world::specs::Arithmetic::shifted))]
+#[tactic(auto, unfolding(cil_meaning::specs::Arithmetic::shifted))]
 fn shifted_u64(operator: ShiftOperator, x: u64, count: u32) -> u64
     ensures { result ≡ shifted w64 operator x count }
 {
@@ -214,7 +214,7 @@ fn shifted_u64(operator: ShiftOperator, x: u64, count: u32) -> u64
 }
 
 /// Whether two numbers of 64 bits compare so.
-#[tactic(auto, unfolding(type_world::specs::Arithmetic::compares))]
+#[tactic(auto, unfolding(cil_meaning::specs::Arithmetic::compares))]
 fn compares_u64(comparison: Comparison, x: u64, y: u64) -> bool
     ensures { result ≡ compares w64 comparison x y }
 {
@@ -298,7 +298,7 @@ pub(crate) fn inverted(width: Width, x: u64) -> u64
 }
 
 /// A number of 8 bits with a sign, in 32 bits.
-#[tactic(auto, unfolding(type_world::specs::Arithmetic::narrowed))]
+#[tactic(auto, unfolding(cil_meaning::specs::Arithmetic::narrowed))]
 fn signed_byte(word: u64) -> u64
     ensures { result ≡ narrowed IntegerType.I1 word }
 {
@@ -307,7 +307,7 @@ fn signed_byte(word: u64) -> u64
 }
 
 /// A number of 16 bits with a sign, in 32 bits.
-#[tactic(auto, unfolding(type_world::specs::Arithmetic::narrowed))]
+#[tactic(auto, unfolding(cil_meaning::specs::Arithmetic::narrowed))]
 fn signed_short(word: u64) -> u64
     ensures { result ≡ narrowed IntegerType.I2 word }
 {
@@ -316,7 +316,7 @@ fn signed_short(word: u64) -> u64
 }
 
 /// The low bits of a number that an integer type keeps, widened again.
-#[tactic(auto, unfolding(type_world::specs::Arithmetic::narrowed))]
+#[tactic(auto, unfolding(cil_meaning::specs::Arithmetic::narrowed))]
 fn narrowed(of: IntegerType, word: u64) -> u64
     ensures { result ≡ narrowed of word }
 {
@@ -331,7 +331,7 @@ fn narrowed(of: IntegerType, word: u64) -> u64
 }
 
 /// A word as a place of an integer type keeps it.
-#[tactic(auto, unfolding(type_world::specs::Arithmetic::narrowed, crate::specs::Words::kept_word))]
+#[tactic(auto, unfolding(cil_meaning::specs::Arithmetic::narrowed, crate::specs::Words::kept_word))]
 pub(crate) fn kept_word(of: IntegerType, word: u64) -> u64
     ensures { result ≡ kept_word of word }
 {
@@ -355,7 +355,7 @@ fn signed_word(word: u64) -> u64
 }
 
 /// A number converted to an integer type (ECMA-335 III.3.27).
-#[tactic(auto, unfolding(type_world::specs::Arithmetic::narrowed, crate::specs::Words::converted))]
+#[tactic(auto, unfolding(cil_meaning::specs::Arithmetic::narrowed, crate::specs::Words::converted))]
 pub(crate) fn converted(width: Width, to: IntegerType, word: u64) -> u64
     ensures { result ≡ converted width to word }
 {

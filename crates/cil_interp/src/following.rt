@@ -2,8 +2,8 @@
 
 ghost use Rattle.std.specs.Prelude.{◌≡◌, ◌≤◌, ◌<◌, ℕ, List, None, length, take};
 ghost use Rattle.type_world.specs.Loading.{world_of};
-ghost use Rattle.type_world.specs.State.{Begun, Going, Run, no_objects};
-ghost use Rattle.type_world.specs.Run.{enter};
+ghost use Rattle.cil_meaning.specs.State.{Begun, Going, Run, no_objects};
+ghost use Rattle.cil_meaning.specs.Run.{enter};
 ghost use Rattle.cil_interp.specs.Frames.{AreSome, Called, Comes, Gave, GivesTo, PassesAll, Runs, Waits};
 ghost use Rattle.cil_interp.specs.Frames.{frames_are, next_result, outgoing, passed, state_of, waiting_in};
 ghost use Rattle.cil_interp.specs.Means.{CodesAreInstructions, TypingsMeetTheirRules};
@@ -16,10 +16,9 @@ use crate::printing::built_in;
 use crate::run::run_frame;
 use crate::running::{enter_method, give_last, leave};
 use crate::stack::Stack;
+use cil_meaning::{Ending, typings_meet_their_rules};
 use rtr_heap::Memory;
-use type_world::{
-    BUILT_IN, Ending, MethodId, World, codes_are_instructions, typings_meet_their_rules,
-};
+use type_world::{BUILT_IN, MethodId, World, codes_are_instructions};
 
 /// The words that the last frame's call passes, in a place of their own.
 fn copied(stack: &Stack, words: &[u64], passed: &mut [u64]) -> usize

@@ -2,8 +2,8 @@
 
 ghost use Rattle.std.specs.Prelude.{◌≡◌, ◌≤◌, ◌<◌, ℕ, List, length, [], IfOk};
 ghost use Rattle.type_world.specs.Loading.{world_of};
-ghost use Rattle.type_world.specs.State.{Begun, Going, no_objects};
-ghost use Rattle.type_world.specs.Run.{enter, give, step};
+ghost use Rattle.cil_meaning.specs.State.{Begun, Going, no_objects};
+ghost use Rattle.cil_meaning.specs.Run.{enter, give, step};
 ghost use Rattle.cil_interp.specs.Frames.{AreSome, Comes, GivesTo, GoesOn, PassesAll, Runs, Waits};
 ghost use Rattle.cil_interp.specs.Frames.{given_to, outgoing, passed, state_of, waiting_in};
 ghost use Rattle.cil_interp.specs.Ran.{IsEntry, RunEnds};
@@ -14,11 +14,12 @@ use crate::following::run_all;
 use crate::meter::{Event, Meter};
 use crate::running::{enter_method, give_last, step_last};
 use crate::stack::Stack;
+use cil_meaning::Ending;
 use rtr_bytes::NoMemory;
 use rtr_heap::Memory;
 use std::alloc::Global;
 use std::marker::Model;
-use type_world::{BUILT_IN, Ending, MethodId, World};
+use type_world::{BUILT_IN, MethodId, World};
 
 /// So many words the frames have: 16 arguments, 128 locals and 128 words of stack for each of 1,024, and one more.
 const WORDS: usize = 278_529;

@@ -31,6 +31,3 @@ pub use frames::{CilFrames, step};
 pub use meter::{Event, Meter};
 pub use printing::built_in;
 pub use stack::FRAMES;
-
-#[cfg(test)]
-mod tests;

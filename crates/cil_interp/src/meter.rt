@@ -2,7 +2,8 @@
 
 ghost use Rattle.std.specs.Prelude.{◌≡◌, ◌+◌, IsTrue, false};
 
-use type_world::{Ending, MethodId};
+use cil_meaning::Ending;
+use type_world::MethodId;
 
 /// What a run has left, and how deep it is.
 #[derive(Clone, Copy, Debug, PartialEq, Eq)]

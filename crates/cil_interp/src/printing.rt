@@ -2,16 +2,17 @@
 
 ghost use Rattle.std.specs.Prelude.{◌≡◌, ◌≤◌, ◌<◌, ℕ, List, Some, length};
 ghost use Rattle.type_world.specs.declared.identity.TheConstants.{BUILT_IN};
-ghost use Rattle.type_world.specs.State.{Begun, Frame, no_objects};
+ghost use Rattle.cil_meaning.specs.State.{Begun, Frame, no_objects};
 ghost use Rattle.type_world.specs.Loading.{world_of};
-ghost use Rattle.type_world.specs.Run.{enter};
+ghost use Rattle.cil_meaning.specs.Run.{enter};
 ghost use Rattle.cil_interp.specs.Frames.{HasPrinted, PassesAll, passed};
 ghost use Rattle.cil_interp.specs.Lines.{line_as};
 
 use crate::meter::{Event, Meter, tick};
+use cil_meaning::Ending;
 use itoa::Buffer;
 use rtr_heap::Memory;
-use type_world::{Ending, World};
+use type_world::World;
 
 /// The line of a row from 2 to 6.
 fn line_of<'a>(row: u32, arguments: &[u64], buffer: &'a mut Buffer) -> &'a str

@@ -1,11 +1,11 @@
 //! What the calls on frames do, over the frames and their words apart.
 
 ghost use Rattle.std.specs.Prelude.{◌≡◌, ◌≤◌, ◌<◌, ◌+◌, ◌^◌, ℕ, List, length, [], ◌∷◌, IsTrue, false, if◌then◌else◌};
-ghost use Rattle.type_world.specs.declared.ending.Ending.TheVariants as endings;
+ghost use Rattle.cil_meaning.specs.declared.ending.Ending.TheVariants as endings;
 ghost use Rattle.type_world.specs.Loading.{world_of};
 ghost use Rattle.type_world.specs.Profile.{is_abstract};
-ghost use Rattle.type_world.specs.State.{Begun, Frame, no_objects};
-ghost use Rattle.type_world.specs.Run.{enter, give, step};
+ghost use Rattle.cil_meaning.specs.State.{Begun, Frame, no_objects};
+ghost use Rattle.cil_meaning.specs.Run.{enter, give, step};
 ghost use Rattle.cil_interp.specs.Entered.{given_at, given_words};
 ghost use Rattle.cil_interp.specs.Frames.{AreSome, Comes, GivesTo, GoesOn, PassesAll, Runs, Waits};
 ghost use Rattle.cil_interp.specs.Frames.{frames_are, given_to, left, next_base, outgoing, passed, state_of, waiting_in};
@@ -19,9 +19,8 @@ use crate::enter::{begin, write};
 use crate::instruction::advance;
 use crate::meter::{Event, Meter, tick};
 use crate::stack::{FRAMES, Stack};
-use type_world::{
-    BUILT_IN, Ending, MethodId, World, codes_are_instructions, typings_meet_their_rules,
-};
+use cil_meaning::{Ending, typings_meet_their_rules};
+use type_world::{BUILT_IN, MethodId, World, codes_are_instructions};
 
 /// How entering a method that is not in the profile ends the run.
 fn absent(world: &World, target: MethodId) -> Ending

@@ -13,20 +13,20 @@ use Rattle.cil_decode.specs.declared.operation.Operation.TheVariants as operatio
 use Rattle.cil_decode.specs.Operations.{operation_of}
 use Rattle.cil_decode.specs.Instructions.{instr_size}
 use Rattle.type_world.specs.declared.identity.MethodId.{MethodId}
-use Rattle.type_world.specs.declared.kind.Kind.{Kind}
-use Rattle.type_world.specs.declared.kind.Kind.TheVariants as kinds
+use Rattle.cil_meaning.specs.declared.kind.Kind.{Kind}
+use Rattle.cil_meaning.specs.declared.kind.Kind.TheVariants as kinds
 use Rattle.type_world.specs.declared.place.Place.{Place}
 use Rattle.type_world.specs.declared.place.Shape.{Shape}
 use Rattle.type_world.specs.World.{World}
-use Rattle.type_world.specs.Arithmetic.{is_wide}
+use Rattle.cil_meaning.specs.Arithmetic.{is_wide}
 use Rattle.type_world.specs.Members.{resolve_method}
 use Rattle.type_world.specs.Profile.{Method, is_abstract, profile_shape}
-use Rattle.type_world.specs.Typing.{Flow, Untyped, Stops, Flows, Typing, asks, branches, called, calls, calls_of, calls_with, can_compare}
-use Rattle.type_world.specs.Typing.{compares_two, flow_at, flow_by, flow_if, flow_of, goes_on, is_integer, is_typing, joins, jumps, keeps}
-use Rattle.type_world.specs.Typing.{kind_fits, kind_of, last_first, pops, pops_into, pushes, result_onto, returns, same_typing, same_width}
-use Rattle.type_world.specs.Typing.{settled, settled_or, stack_at, switches, takes_count, under_arguments, widen_all, with_flow}
-use Rattle.type_world.specs.Typing.{with_stack}
-use Rattle.type_world.proofs.Rounds.{at_itself, at_others, merged}
+use Rattle.cil_meaning.specs.Typing.{Flow, Untyped, Stops, Flows, Typing, asks, branches, called, calls, calls_of, calls_with, can_compare}
+use Rattle.cil_meaning.specs.Typing.{compares_two, flow_at, flow_by, flow_if, flow_of, goes_on, is_integer, is_typing, joins, jumps, keeps}
+use Rattle.cil_meaning.specs.Typing.{kind_fits, kind_of, last_first, pops, pops_into, pushes, result_onto, returns, same_typing, same_width}
+use Rattle.cil_meaning.specs.Typing.{settled, settled_or, stack_at, switches, takes_count, under_arguments, widen_all, with_flow}
+use Rattle.cil_meaning.specs.Typing.{with_stack}
+use Rattle.cil_meaning.proofs.Rounds.{at_itself, at_others, merged}
 use Rattle.cil_verify.specs.Subjects.{Subject, is_deep, is_typing_of, least_of, meets_in, rounded, settled_in}
 use Rattle.cil_verify.specs.Subjects.{settled_of, takes_in, too_deep, visited}
 

@@ -2,10 +2,10 @@
 use Rattle.std.proofs.Common.{◌≡◌, ℕ, ◌+◌, ◌-◌, ◌<◌, ◌≤◌, ◌&&◌, Bool, true, false, List, [], ◌∷◌, ◌++◌, length}
 use Rattle.std.proofs.Common.{Option, Some, None, take, drop, get_or, nat_lt, if◌then◌else◌, refl, ap, ◌∙◌, arith, ltb-true, ltb-false}
 use Rattle.std.proofs.lemmas.List.{drop_more, drop_all, take_more, take_all}
-use Rattle.type_world.specs.declared.kind.Kind.{Kind}
+use Rattle.cil_meaning.specs.declared.kind.Kind.{Kind}
 use Rattle.type_world.specs.declared.place.Place.{Place}
 use Rattle.type_world.specs.World.{World}
-use Rattle.type_world.specs.Typing.{kind_fits, kind_of, last_first, under_arguments}
+use Rattle.cil_meaning.specs.Typing.{kind_fits, kind_of, last_first, under_arguments}
 
 last_is_first : (places so_far : List Place) (place : Place) → last_first (places ++ place ∷ []) so_far ≡ place ∷ last_first places so_far
 unfolding last_first

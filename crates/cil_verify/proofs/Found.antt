@@ -11,7 +11,7 @@ use Rattle.type_world.specs.Members.{class_of_method}
 use Rattle.type_world.specs.Profile.{Method, if_meets, instrs_of, is_abstract, is_generic, is_in_profile, meets_limits}
 use Rattle.type_world.specs.Profile.{meets_profile, method_of}
 use Rattle.type_world.specs.Profile.{profile_method, shape_in_profile}
-use Rattle.type_world.specs.Typing.{Typing, first_untyped, first_untyped_in, if_verifies, method_in_profile, typing_by, typing_of}
+use Rattle.cil_meaning.specs.Typing.{Typing, first_untyped, first_untyped_in, if_verifies, method_in_profile, typing_by, typing_of}
 use Rattle.cil_verify.specs.declared.verifier.VerifyRefusal.{VerifyRefusal}
 use Rattle.cil_verify.specs.declared.verifier.VerifyRefusal.TheVariants as refusals
 use Rattle.cil_verify.specs.Verified.{IsRefused, Verified, typing_in}

@@ -4,8 +4,8 @@ use Rattle.std.proofs.Common.{Option, Some, None, is_some, is_none, refl, sym, a
 use Rattle.std.specs.Option.{option_map}
 use Rattle.cil_decode.specs.declared.instr.Instr.{Instr}
 use Rattle.cil_decode.specs.Bodies.{IsCode}
-use Rattle.type_world.specs.Typing.{Typing}
-use Rattle.type_world.specs.Laws.{HasTyping, RoundsFindTypings, TypingsNarrow}
+use Rattle.cil_meaning.specs.Typing.{Typing}
+use Rattle.cil_meaning.specs.Laws.{HasTyping, RoundsFindTypings, TypingsNarrow}
 use Rattle.cil_verify.specs.Subjects.{Subject, first_of, least_of, no_typing_at}
 use Rattle.cil_verify.proofs.Followed.{ascend}
 

@@ -5,9 +5,9 @@ use Rattle.std.proofs.Common.{if◌then◌else◌, eqb-true, eq-eqb, inl, inr}
 use Rattle.std.proofs.lemmas.Bool.{cases_eq, ne_eqb}
 use Rattle.std.proofs.lemmas.List.{get_or-set_same, get_or-set_other}
 use Rattle.std.specs.Option.{option_map}
-use Rattle.type_world.specs.declared.kind.Kind.{Kind}
+use Rattle.cil_meaning.specs.declared.kind.Kind.{Kind}
 use Rattle.type_world.specs.World.{World}
-use Rattle.type_world.specs.Typing.{Typing, stack_at, widen_all, with_stack}
+use Rattle.cil_meaning.specs.Typing.{Typing, stack_at, widen_all, with_stack}
 use Rattle.cil_verify.specs.Places.{IndexedBy, place_of}
 
 abbrev stack_in : Option (ℕ × List Kind) → Option (List Kind)

@@ -6,8 +6,8 @@ use Rattle.cil_decode.specs.declared.instr.Instr.{Instr}
 use Rattle.type_world.specs.declared.identity.MethodId.{MethodId}
 use Rattle.type_world.specs.World.{World}
 use Rattle.type_world.specs.Profile.{Method, instrs_of}
-use Rattle.type_world.specs.Typing.{first_untyped, least_typing, typing_by, typing_of}
-use Rattle.type_world.specs.Laws.{FirstUntypedIsFirst, HasTyping, RoundsFindTheLeast, RoundsFindTypings}
+use Rattle.cil_meaning.specs.Typing.{first_untyped, least_typing, typing_by, typing_of}
+use Rattle.cil_meaning.specs.Laws.{FirstUntypedIsFirst, HasTyping, RoundsFindTheLeast, RoundsFindTypings}
 use Rattle.cil_verify.specs.declared.verifier.VerifyRefusal.{VerifyRefusal}
 use Rattle.cil_verify.specs.declared.verifier.VerifyRefusal.TheVariants as refusals
 use Rattle.cil_verify.specs.Verified.{HasLeast, IsRefused, Lacks, Verified, instrs_in, typing_in}

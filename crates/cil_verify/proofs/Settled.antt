@@ -4,8 +4,8 @@ use Rattle.std.proofs.Common.{arith}
 use Rattle.cil_decode.specs.declared.instr.Instr.{Instr}
 use Rattle.type_world.specs.World.{World}
 use Rattle.type_world.specs.Profile.{Method}
-use Rattle.type_world.specs.Typing.{Typing, round, same_typing, settled, settled_or}
-use Rattle.type_world.proofs.Rounds.{typing_is}
+use Rattle.cil_meaning.specs.Typing.{Typing, round, same_typing, settled, settled_or}
+use Rattle.cil_meaning.proofs.Rounds.{typing_is}
 
 -- ---- rounds
 

@@ -3,9 +3,9 @@ use Rattle.std.proofs.Common.{◌≡◌, ℕ, ◌+◌, ◌<◌, ◌≤◌, Bool,
 use Rattle.std.proofs.Common.{nat_le, leb-true, leb-false, take, drop, set, get_or, min, refl, sym, ap, ◌∙◌, arith}
 use Rattle.std.proofs.Common.{append_assoc, length-set}
 use Rattle.std.proofs.lemmas.List.{drop_more, drop_all, drop-set-lt, take_more_set, take-append-drop}
-use Rattle.type_world.specs.declared.kind.Kind.{Kind}
+use Rattle.cil_meaning.specs.declared.kind.Kind.{Kind}
 use Rattle.type_world.specs.World.{World}
-use Rattle.type_world.specs.Typing.{widen, widen_all}
+use Rattle.cil_meaning.specs.Typing.{widen, widen_all}
 
 -- ---- widened so far
 

@@ -4,8 +4,8 @@ use Rattle.cil_decode.specs.declared.instr.Arg.{Arg}
 use Rattle.cil_decode.specs.Bodies.{targets_of}
 use Rattle.cil_decode.specs.declared.operation.Operation.{Operation}
 use Rattle.cil_decode.specs.declared.operation.Operation.TheVariants as operations
-use Rattle.type_world.specs.declared.kind.Kind.{Kind}
-use Rattle.type_world.specs.Typing.{Flow, Untyped, Stops, Flows}
+use Rattle.cil_meaning.specs.declared.kind.Kind.{Kind}
+use Rattle.cil_meaning.specs.Typing.{Flow, Untyped, Stops, Flows}
 use Rattle.cil_verify.specs.declared.flow.Leaves.{Leaves}
 use Rattle.cil_verify.specs.declared.flow.Flow.{Flow as Found}
 use Rattle.cil_verify.specs.declared.flow.Flow.TheVariants as found

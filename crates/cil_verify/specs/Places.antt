@@ -1,9 +1,9 @@
 -- Stacks by their offsets: an index to their places, and a stack that is added at offsets.
 use Rattle.std.specs.Prelude.{◌≡◌, ℕ, ◌==◌, suc, List, [], ◌∷◌, Option, Some, None, fold, get_or, if◌then◌else◌}
 use Rattle.std.specs.Option.{option_map}
-use Rattle.type_world.specs.declared.kind.Kind.{Kind}
+use Rattle.cil_meaning.specs.declared.kind.Kind.{Kind}
 use Rattle.type_world.specs.World.{World}
-use Rattle.type_world.specs.Typing.{Typing, with_stack}
+use Rattle.cil_meaning.specs.Typing.{Typing, with_stack}
 
 -- the place of the first stack of an offset
 abbrev pub place_of : Typing → ℕ → Option ℕ

@@ -5,14 +5,14 @@ use Rattle.cil_decode.specs.declared.operation.Operation.{Operation}
 use Rattle.cil_decode.specs.declared.operation.Comparison.{Comparison}
 use Rattle.cil_decode.specs.declared.operation.IntegerType.{IntegerType}
 use Rattle.type_world.specs.declared.identity.MethodId.{MethodId}
-use Rattle.type_world.specs.declared.kind.Kind.{Kind}
-use Rattle.type_world.specs.declared.kind.Kind.TheVariants as kinds
+use Rattle.cil_meaning.specs.declared.kind.Kind.{Kind}
+use Rattle.cil_meaning.specs.declared.kind.Kind.TheVariants as kinds
 use Rattle.type_world.specs.declared.place.Place.{Place}
-use Rattle.type_world.specs.Arithmetic.{is_wide}
+use Rattle.cil_meaning.specs.Arithmetic.{is_wide}
 use Rattle.type_world.specs.Loading.{as_method, world_of}
 use Rattle.type_world.specs.Profile.{profile_shape}
-use Rattle.type_world.specs.Typing.{Flow, asks, branches, calls_with, can_compare, compares_two, flow_of, goes_on, is_integer, joins, jumps}
-use Rattle.type_world.specs.Typing.{pops, pops_into, pushes, result_onto, returns, same_width, switches, takes_count}
+use Rattle.cil_meaning.specs.Typing.{Flow, asks, branches, calls_with, can_compare, compares_two, flow_of, goes_on, is_integer, joins, jumps}
+use Rattle.cil_meaning.specs.Typing.{pops, pops_into, pushes, result_onto, returns, same_width, switches, takes_count}
 use Rattle.cil_verify.specs.declared.rule.Rule.{Rule}
 
 -- of each instruction

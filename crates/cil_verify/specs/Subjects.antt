@@ -4,9 +4,9 @@ use Rattle.std.specs.Option.{option_map, option_map_or}
 use Rattle.cil_decode.specs.declared.instr.Instr.{Instr}
 use Rattle.type_world.specs.World.{World}
 use Rattle.type_world.specs.Profile.{Method}
-use Rattle.type_world.specs.Typing.{Flow, Flows, Typing, is_typing, keeps, least_typing, meets_rule, round, rounds, settled, with_instr}
-use Rattle.type_world.specs.declared.kind.Kind.{Kind}
-use Rattle.type_world.specs.Typing.{flow_at, stack_at, takes_stack}
+use Rattle.cil_meaning.specs.Typing.{Flow, Flows, Typing, is_typing, keeps, least_typing, meets_rule, round, rounds, settled, with_instr}
+use Rattle.cil_meaning.specs.declared.kind.Kind.{Kind}
+use Rattle.cil_meaning.specs.Typing.{flow_at, stack_at, takes_stack}
 
 pub record Subject : Type 0 where
   pub world : World

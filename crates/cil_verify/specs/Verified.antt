@@ -5,8 +5,8 @@ use Rattle.cil_decode.specs.declared.instr.Instr.{Instr}
 use Rattle.type_world.specs.declared.identity.MethodId.{MethodId}
 use Rattle.type_world.specs.World.{World}
 use Rattle.type_world.specs.Profile.{Method, instrs_of, profile_method}
-use Rattle.type_world.specs.Typing.{Typing, first_untyped, typing_of}
-use Rattle.type_world.specs.Laws.{HasTyping, IsFirstUntyped, IsLeast}
+use Rattle.cil_meaning.specs.Typing.{Typing, first_untyped, typing_of}
+use Rattle.cil_meaning.specs.Laws.{HasTyping, IsFirstUntyped, IsLeast}
 use Rattle.cil_verify.specs.declared.verifier.VerifyRefusal.{VerifyRefusal}
 use Rattle.cil_verify.specs.declared.verifier.VerifyRefusal.TheVariants as refusals
 

@@ -2,11 +2,11 @@
 
 ghost use Rattle.std.specs.Prelude.{◌≡◌, [], ◌∷◌, List, drop, length};
 ghost use Rattle.cil_decode.specs.declared.instr.Arg.{Arg as Argument};
-ghost use Rattle.type_world.specs.declared.kind.Kind.{Kind as Typed};
-ghost use Rattle.type_world.specs.Typing.{Flows};
+ghost use Rattle.cil_meaning.specs.declared.kind.Kind.{Kind as Typed};
+ghost use Rattle.cil_meaning.specs.Typing.{Flows};
 ghost use Rattle.cil_verify.specs.Flows.{as_flow, onto, stack_after};
 
-use type_world::Kind;
+use cil_meaning::Kind;
 
 /// The stack after an instruction, by the one before it, and the offsets that follow.
 #[derive(Clone, Copy)]

@@ -16,8 +16,5 @@ mod step;
 mod typing;
 mod verifier;
 
-pub use type_world::Kind;
+pub use cil_meaning::Kind;
 pub use verifier::{Typed, VerifyRefusal, verify};
-
-#[cfg(test)]
-mod tests;

@@ -8,9 +8,9 @@ use crate::code::Code;
 use crate::flow::{Flow, depth_after};
 use crate::stacks::{Stacks, add_all};
 use crate::step::Step;
+use cil_meaning::Kind;
 use rtr_bytes::NoMemory;
 use std::alloc::Global;
-use type_world::Kind;
 
 /// Makes a stack from another one: some types are popped, and then one is pushed.
 fn put_stack(

@@ -3,12 +3,12 @@
 ghost use Rattle.std.specs.Prelude.{◌≡◌, ◌<◌, ◌-◌, ◌&&◌, [], Some, None, slice_get, drop, length, false, get_or, nat_lt, if◌then◌else◌};
 ghost use Rattle.std.specs.Option.{option_map};
 ghost use Rattle.cil_decode.specs.declared.instr.Arg.{Arg as Argument};
-ghost use Rattle.type_world.specs.declared.kind.Kind.{Kind as Typed};
-ghost use Rattle.type_world.specs.declared.kind.Kind.TheVariants as kinds;
+ghost use Rattle.cil_meaning.specs.declared.kind.Kind.{Kind as Typed};
+ghost use Rattle.cil_meaning.specs.declared.kind.Kind.TheVariants as kinds;
 ghost use Rattle.type_world.specs.declared.place.Place.{Place as Held};
-ghost use Rattle.type_world.specs.Arithmetic.{is_wide};
+ghost use Rattle.cil_meaning.specs.Arithmetic.{is_wide};
 ghost use Rattle.type_world.specs.Loading.{world_of};
-ghost use Rattle.type_world.specs.Typing.{kind_fits, kind_of, last_first, under_arguments};
+ghost use Rattle.cil_meaning.specs.Typing.{kind_fits, kind_of, last_first, under_arguments};
 ghost use Rattle.cil_verify.specs.Flows.{as_flow, is_control, is_of_values};
 ghost use Rattle.cil_verify.specs.Rules.{branches_by, calls_by, compares_by, counts_by, converts_by, duplicates_by, joins_by, jumps_by};
 ghost use Rattle.cil_verify.specs.Rules.{keeps_integer_by, pops_by, pops_into_by, pops_then_branches_by, pushes_by, returns_by, rule_of};
@@ -17,7 +17,8 @@ ghost use Rattle.cil_verify.specs.Rules.{switches_by, tests_by};
 use crate::flow::{Flow, Leaves, goes_on};
 use crate::stack::{can_compare, fits_place, is_integer, kind_of, same_width};
 use cil_decode::{Arg, Comparison, IntegerType, Operation};
-use type_world::{Kind, MethodId, Place, ProfileMethod, World};
+use cil_meaning::Kind;
+use type_world::{MethodId, Place, ProfileMethod, World};
 
 /// The place of an argument or a local, by its index.
 fn place_at(places: &[Place], index: u16) -> Option<Place>
@@ -175,7 +176,7 @@ impl<'a> Rule<'a> {
     }
 
     /// Arithmetic, comparisons and conversions. No method in the profile has the operations that are left.
-    #[tactic(auto, unfolding(type_world::specs::Typing::flow_of))]
+    #[tactic(auto, unfolding(cil_meaning::specs::Typing::flow_of))]
     fn of_numbers(&self, operation: Operation, stack: &[Kind]) -> Flow
         requires values { is_of_values operation ≡ false }
         requires control { is_control operation ≡ false }
@@ -192,7 +193,7 @@ impl<'a> Rule<'a> {
     }
 
     /// Arguments, locals, constants and the stack itself; else arithmetic.
-    #[tactic(auto, unfolding(type_world::specs::Typing::flow_of))]
+    #[tactic(auto, unfolding(cil_meaning::specs::Typing::flow_of))]
     fn of_values(&self, operation: Operation, stack: &[Kind]) -> Flow
         requires { is_control operation ≡ false }
         ensures { (arg : Argument) → as_flow result arg stack.now ≡ rule_of self.now operation arg stack.now }
@@ -354,7 +355,7 @@ impl<'a> Rule<'a> {
     }
 
     /// A call: a token that does not resolve ends the run.
-    #[tactic(auto, unfolding(type_world::specs::Typing::flow_of))]
+    #[tactic(auto, unfolding(cil_meaning::specs::Typing::flow_of))]
     fn calls(&self, arg: &Arg, stack: &[Kind]) -> Flow
         ensures { as_flow result arg.now stack.now ≡ rule_of self.now Operation.Call arg.now stack.now }
     {
@@ -368,7 +369,7 @@ impl<'a> Rule<'a> {
     }
 
     /// What follows an instruction at a stack.
-    #[tactic(auto, unfolding(type_world::specs::Typing::flow_of))]
+    #[tactic(auto, unfolding(cil_meaning::specs::Typing::flow_of))]
     pub(crate) fn flow(&self, operation: Operation, arg: &Arg, stack: &[Kind]) -> Flow
         ensures { as_flow result arg.now stack.now ≡ rule_of self.now operation arg.now stack.now }
     {

@@ -6,9 +6,9 @@ ghost use Rattle.cil_verify.specs.Subjects.{first_of, least_of};
 
 use crate::code::Code;
 use crate::typing::least_typing;
+use cil_meaning::{rounds_find_typings, untyped_code_has_a_first_offset};
 use rtr_bytes::NoMemory;
 use std::alloc::Global;
-use type_world::{rounds_find_typings, untyped_code_has_a_first_offset};
 
 /// Whether there is no typing, where each instruction after a last offset ends the run.
 fn is_untyped(alloc: Global, code: &Code<'_>, last: u32) -> Result<bool, NoMemory>

@@ -1,14 +1,15 @@
 //! Types of values: which ones fit a place or one another, and what two widen to.
 
 ghost use Rattle.std.specs.Prelude.{◌≡◌, ◌<◌, true, false, length, get_or, slice_set};
-ghost use Rattle.type_world.specs.declared.kind.Kind.{Kind as Typed};
+ghost use Rattle.cil_meaning.specs.declared.kind.Kind.{Kind as Typed};
 ghost use Rattle.type_world.specs.Loading.{world_of};
-ghost use Rattle.type_world.specs.Typing.{can_compare, can_compare_references, is_integer, kind_fits, kind_of};
-ghost use Rattle.type_world.specs.Typing.{same_width, stack_fits, widen, widen_all};
+ghost use Rattle.cil_meaning.specs.Typing.{can_compare, can_compare_references, is_integer, kind_fits, kind_of};
+ghost use Rattle.cil_meaning.specs.Typing.{same_width, stack_fits, widen, widen_all};
 
 use cil_decode::Comparison;
+use cil_meaning::Kind;
 use cli_assembly::Elem;
-use type_world::{Kind, Place, World};
+use type_world::{Place, World};
 
 /// The type of the value that a place gives.
 pub(crate) fn kind_of(place: Place) -> Kind
@@ -22,7 +23,7 @@ pub(crate) fn kind_of(place: Place) -> Kind
 }
 
 /// Whether a value of a type is one of another type too (ECMA-335 III.1.8.1.2).
-#[tactic(auto, unfolding(type_world::specs::Typing::kind_fits))]
+#[tactic(auto, unfolding(cil_meaning::specs::Typing::kind_fits))]
 pub(crate) fn kind_fits(world: &World, of: Kind, to: Kind) -> bool
     ensures { result ≡ kind_fits (world_of world.now) of to }
 {

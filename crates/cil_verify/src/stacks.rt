@@ -4,17 +4,18 @@ ghost use Rattle.std.specs.Prelude.{ℕ, ◌≡◌, ◌++◌, ◌<◌, [], ◌�
 ghost use Rattle.std.specs.Prelude.{option_to_list, IfOk, OnOk};
 ghost use Rattle.cil_decode.specs.Bodies.{targets_of};
 ghost use Rattle.type_world.specs.Loading.{world_of};
-ghost use Rattle.type_world.specs.Typing.{stack_at, widen_all, with_stack};
+ghost use Rattle.cil_meaning.specs.Typing.{stack_at, widen_all, with_stack};
 ghost use Rattle.cil_verify.specs.Flows.{offsets_after};
 ghost use Rattle.cil_verify.specs.Places.{place_of, with_stacks};
 
 use crate::flow::Leaves;
 use crate::stack::widen_stack;
 use cil_decode::Arg;
+use cil_meaning::Kind;
 use rtr_bytes::NoMemory;
 use std::alloc::Global;
 use std::marker::Model;
-use type_world::{Kind, World};
+use type_world::World;
 
 /// An offset that is reached, and the stack there. Contracts see them as a pair.
 #[derive(Drop)]
@@ -25,7 +26,7 @@ pub(crate) struct Reached {
 
 impl Model for Reached {
     ghost use Rattle.std.specs.Prelude.{ℕ, List};
-    ghost use Rattle.type_world.specs.declared.kind.Kind.{Kind};
+    ghost use Rattle.cil_meaning.specs.declared.kind.Kind.{Kind};
 
     ghost Value = { ℕ × List Kind };
 
@@ -88,7 +89,7 @@ pub(crate) struct Stacks {
 }
 
 impl Model for Stacks {
-    ghost use Rattle.type_world.specs.Typing.{Typing};
+    ghost use Rattle.cil_meaning.specs.Typing.{Typing};
     ghost use Rattle.cil_verify.specs.Places.{IndexedBy};
 
     ghost Value = { Typing };

@@ -5,16 +5,17 @@ ghost use Rattle.cil_decode.specs.Bodies.{IsCode};
 ghost use Rattle.cil_decode.specs.Instructions.{instr_size};
 ghost use Rattle.cil_decode.specs.declared.instr.Instr.{Instr as Instruction};
 ghost use Rattle.type_world.specs.Loading.{as_method, world_of};
-ghost use Rattle.type_world.specs.Typing.{flow_at};
+ghost use Rattle.cil_meaning.specs.Typing.{flow_at};
 ghost use Rattle.cil_verify.specs.Flows.{as_flow};
 
 use crate::flow::Flow;
 use crate::rule::Rule;
 use cil_decode::{Arg, Instr, Operation};
+use cil_meaning::Kind;
 use rtr_bytes::NoMemory;
 use std::alloc::Global;
 use std::marker::Model;
-use type_world::{Kind, ProfileMethod, World};
+use type_world::{ProfileMethod, World};
 
 /// An instruction, with its operation and the offset after it. Contracts see the instruction.
 #[derive(Drop)]
@@ -65,7 +66,7 @@ impl<'a> Step<'a> {
     }
 
     /// What follows it at a stack, where each instruction after a last offset ends the run.
-    #[tactic(auto, unfolding(type_world::specs::Typing::flow_at))]
+    #[tactic(auto, unfolding(cil_meaning::specs::Typing::flow_at))]
     pub(crate) fn flow(
         &self,
         world: &World,

@@ -4,7 +4,7 @@ ghost use Rattle.std.specs.Prelude.{◌≡◌, IfOk, drop, option_to_list};
 ghost use Rattle.std.specs.List.{list_all};
 ghost use Rattle.cil_decode.specs.Bodies.{targets_of};
 ghost use Rattle.type_world.specs.Loading.{world_of};
-ghost use Rattle.type_world.specs.Typing.{Flows, stack_fits};
+ghost use Rattle.cil_meaning.specs.Typing.{Flows, stack_fits};
 ghost use Rattle.cil_verify.specs.Flows.{offsets_after, onto, stack_after};
 ghost use Rattle.cil_verify.specs.Subjects.{is_typing_of, keeps_in, least_of, meets_in, takes_in};
 
@@ -15,9 +15,10 @@ use crate::stack::{kind_fits, stack_fits};
 use crate::stacks::Stacks;
 use crate::step::Step;
 use cil_decode::Arg;
+use cil_meaning::Kind;
 use rtr_bytes::NoMemory;
 use std::alloc::Global;
-use type_world::{Kind, World};
+use type_world::World;
 
 /// Whether a stack fits another one: some types of a stack are popped, and then one is pushed.
 fn left_fits(
@@ -125,7 +126,7 @@ fn meets_rule(code: &Code<'_>, last: u32, stacks: &Stacks, step: &Step<'_>) -> b
 }
 
 /// Whether stacks are a typing.
-#[tactic(auto, unfolding(type_world::specs::Typing::is_typing))]
+#[tactic(auto, unfolding(cil_meaning::specs::Typing::is_typing))]
 fn is_typing(code: &Code<'_>, last: u32, stacks: &Stacks) -> bool
     ensures { result ≡ is_typing_of code.now last stacks.now }
 {

@@ -4,7 +4,7 @@ ghost use Rattle.std.specs.Prelude.{◌≡◌, ◌≢◌, ◌≤◌, Some, None,
 ghost use Rattle.cil_decode.specs.Bodies.{IsBody};
 ghost use Rattle.type_world.specs.Loading.{as_method, world_of};
 ghost use Rattle.type_world.specs.Profile.{instrs_of, profile_method};
-ghost use Rattle.type_world.specs.Typing.{method_in_profile, stack_at, typing_of};
+ghost use Rattle.cil_meaning.specs.Typing.{method_in_profile, stack_at, typing_of};
 ghost use Rattle.cil_verify.specs.declared.verifier.VerifyRefusal.TheVariants as refusals;
 ghost use Rattle.cil_verify.specs.Verified.{HasLeast, IsRefused, IsUntypedBy, Lacks, instrs_in, typing_in};
 
@@ -13,14 +13,14 @@ use crate::search::first_untyped;
 use crate::stacks::Stacks;
 use crate::typing::least_typing;
 use cil_decode::{Instr, decode_body};
+use cil_meaning::{
+    Kind, rounds_find_the_least, rounds_find_typings, untyped_code_has_a_first_offset,
+};
 use rtr_bytes::NoMemory;
 use std::alloc::Global;
 use std::marker::Model;
 use thiserror::Error;
-use type_world::{
-    Kind, MethodId, ProfileMethod, World, codes_are_instructions, rounds_find_the_least,
-    rounds_find_typings, untyped_code_has_a_first_offset,
-};
+use type_world::{MethodId, ProfileMethod, World, codes_are_instructions};
 
 /// Why a method has no typing.
 #[derive(Clone, Copy, Debug, Drop, PartialEq, Eq, Error)]

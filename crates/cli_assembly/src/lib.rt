@@ -38,8 +38,3 @@ pub use flags::{
 pub use laws::{signatures_are_read_back, signatures_are_shortest};
 pub use signature::{MethodSig, Params, TypeSig};
 pub use writing::{write_field_sig, write_local_sig, write_method_sig};
-
-#[cfg(test)]
-mod signature_tests;
-#[cfg(test)]
-mod tests;

@@ -21,6 +21,3 @@ pub use laws::{
 };
 pub use reading::read_fixup;
 pub use writing::write_fixup;
-
-#[cfg(test)]
-mod tests;

@@ -19,6 +19,3 @@ pub use laws::{
 };
 pub use plan::{CellPlan, is_plan};
 pub use seat::Seat;
-
-#[cfg(test)]
-mod tests;

@@ -20,6 +20,3 @@ pub use metadata::Metadata;
 pub use schema::{
     CODED_KINDS, CODED_TABLES, COLUMNS, CodedKind, CodedTable, Column, ColumnKind, Heap, Table,
 };
-
-#[cfg(test)]
-mod tests;

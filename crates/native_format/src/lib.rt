@@ -25,6 +25,3 @@ pub use sparse_length::SparseLength;
 pub use sparse_reader::SparseArray;
 pub use sparse_writer::write_sparse;
 pub use uint::{no_spelling_begins_another, read_uint, shortest_spelling, uint_len, write_uint};
-
-#[cfg(test)]
-mod tests;

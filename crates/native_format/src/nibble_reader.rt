@@ -176,32 +176,3 @@ pub fn read_nibbles(alloc: Global, bytes: &[u8], at: u32) -> Result<Vec<SlotRef>
 {
     list_from(alloc, bytes, at)
 }
-
-#[cfg(test)]
-mod tests {
-    use super::*;
-
-    /// Slots 2 and 5 of section 1, and a list that is cut after its first slot.
-    #[test]
-    fn slots_one_by_one(rt: HostRuntime) {
-        let mut list = SlotReader::new(&[9, 0x21, 0x03, 0], 1);
-        let first = SlotRef {
-            section: 1,
-            slot: 2,
-        };
-        assert_eq!(rt; list.next_slot(), Ok(Some(first)));
-        let second = SlotRef {
-            section: 1,
-            slot: 5,
-        };
-        assert_eq!(rt; list.next_slot(), Ok(Some(second)));
-        assert_eq!(rt; list.reached(), 5);
-        assert_eq!(rt; list.next_slot(), Ok(None));
-        assert_eq!(rt; list.next_slot(), Ok(None));
-        assert_eq!(rt; list.reached(), 7);
-        let mut cut = SlotReader::new(&[0x21], 0);
-        assert_eq!(rt; cut.next_slot(), Ok(Some(first)));
-        assert_eq!(rt; cut.next_slot(), Err(MalformedList));
-        assert_eq!(rt; cut.next_slot(), Err(MalformedList));
-    }
-}

@@ -19,6 +19,3 @@ pub use pe::Pe;
 pub use room::{can_write_pe, cod_rva, dat_rva};
 pub use section::PeSection;
 pub use written::write_pe;
-
-#[cfg(test)]
-mod tests;

@@ -14,6 +14,3 @@ mod types;
 
 pub use dump::{DumpRefusal, dump_text, read_file};
 pub use laws::fault_is_the_lower;
-
-#[cfg(test)]
-mod tests;

@@ -17,6 +17,3 @@ pub use fault::{Fault, NoMemory, ReadRefusal, Span, ensure};
 pub use field::{u8_or_zero, u16_at, u16_or_zero, u32_at, u32_or_zero, u64_at};
 pub use list::Sequence;
 pub use put::put_u32;
-
-#[cfg(test)]
-mod tests;

@@ -24,18 +24,3 @@ pub fn put_u32(bytes: &mut [u8], at: u32, value: u32) -> bool
     LittleEndian::write_u32(&mut bytes[at..at + 4], value);
     true
 }
-
-#[cfg(test)]
-mod tests {
-    use super::*;
-
-    #[test]
-    fn number_in_its_place(rt: HostRuntime) {
-        let mut bytes = [9; 6];
-        assert!(rt; put_u32(&mut bytes, 1, 0x0403_0201));
-        assert_eq!(rt; bytes, [9, 1, 2, 3, 4, 9]);
-        assert!(rt; !put_u32(&mut bytes, 3, 7));
-        assert!(rt; !put_u32(&mut bytes, u32::MAX, 7));
-        assert_eq!(rt; bytes, [9, 1, 2, 3, 4, 9]);
-    }
-}

@@ -6,6 +6,3 @@
 mod memory;
 
 pub use memory::{Memory, OUTPUT_LIMIT, OutputFull};
-
-#[cfg(test)]
-mod tests;

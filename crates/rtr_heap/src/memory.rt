@@ -1,8 +1,8 @@
 //! The memory of one worker.
 
 ghost use Rattle.std.specs.Prelude.{◌≡◌, [], IfOk, OnErr, OnOk};
-ghost use Rattle.type_world.specs.declared.ending.Ending.TheVariants as endings;
-ghost use Rattle.type_world.specs.State.{Bad, Fine, no_objects};
+ghost use Rattle.cil_meaning.specs.declared.ending.Ending.TheVariants as endings;
+ghost use Rattle.cil_meaning.specs.State.{Bad, Fine, no_objects};
 
 use rtr_bytes::NoMemory;
 use std::alloc::Global;

@@ -32,6 +32,3 @@ pub use real_sink::RealSink;
 pub use sink::{Sink, SinkFailed, write_all};
 pub use sure::{SureFiles, SureSink};
 pub use text::Text;
-
-#[cfg(test)]
-mod tests;

@@ -5,15 +5,15 @@ use Rattle.std.proofs.lemmas.List.{length-map}
 use Rattle.std.proofs.lemmas.Bool.Decides.{nat_tests}
 use Rattle.std.specs.Option.{option_map, option_map_or}
 use Rattle.type_world.specs.declared.identity.MethodId.{MethodId}
-use Rattle.type_world.specs.declared.ending.Ending.{Ending}
+use Rattle.cil_meaning.specs.declared.ending.Ending.{Ending}
 use Rattle.type_world.specs.World.{World}
 use Rattle.type_world.specs.Members.{is_built_in}
 use Rattle.type_world.specs.Profile.{Method, profile_shape}
 use Rattle.type_world.specs.Entries.{can_start}
-use Rattle.type_world.specs.Typing.{method_in_profile}
-use Rattle.type_world.specs.State.{Begun, Run, Going, IsOver, no_objects}
-use Rattle.type_world.specs.Step.{kept_all}
-use Rattle.type_world.specs.Run.{Reaches, after, arguments_of, begin, begin_in, cil, enter, enter_by, start}
+use Rattle.cil_meaning.specs.Typing.{method_in_profile}
+use Rattle.cil_meaning.specs.State.{Begun, Run, Going, IsOver, no_objects}
+use Rattle.cil_meaning.specs.Step.{kept_all}
+use Rattle.cil_meaning.specs.Run.{Reaches, after, arguments_of, begin, begin_in, cil, enter, enter_by, start}
 use Rattle.cil_interp.specs.declared.act.Activation.{Activation}
 use Rattle.cil_interp.specs.declared.meter.Event.{Event}
 use Rattle.cil_interp.specs.declared.meter.Event.TheVariants as events

@@ -20,11 +20,11 @@ use Rattle.type_world.specs.World.{World}
 use Rattle.type_world.specs.Members.{signature_of}
 use Rattle.type_world.specs.Profile.{few_arguments, method_flag, place_of, places_of, result_of, shape, shape_by}
 use Rattle.type_world.specs.Profile.{shape_of, shape_with, with_this}
-use Rattle.type_world.specs.Arithmetic.{low_of_int}
+use Rattle.cil_meaning.specs.Arithmetic.{low_of_int}
 use Rattle.type_world.specs.Entries.{can_start, in_range, is_printable, takes_number, takes_numbers}
-use Rattle.type_world.specs.Typing.{kind_of}
-use Rattle.type_world.specs.State.{I4, I8, no_objects}
-use Rattle.type_world.specs.Run.{argument, arguments_by, arguments_of}
+use Rattle.cil_meaning.specs.Typing.{kind_of}
+use Rattle.cil_meaning.specs.State.{I4, I8, no_objects}
+use Rattle.cil_meaning.specs.Run.{argument, arguments_by, arguments_of}
 use Rattle.cil_interp.specs.Frames.{passed_as}
 use Rattle.cil_interp.specs.View.{row, value_of}
 use Rattle.rtr_runner.specs.Workers.{low_word}

@@ -13,7 +13,7 @@ use Rattle.type_world.specs.Members.{class_of_method}
 use Rattle.type_world.specs.Profile.{Method, if_meets, if_narrow, is_in_profile, is_narrow, locals_of, meets_limits}
 use Rattle.type_world.specs.Profile.{meets_profile, method, method_of, method_with, profile_method, profile_shape}
 use Rattle.type_world.specs.Profile.{shape_in_profile, shape_of}
-use Rattle.type_world.specs.Typing.{Typing, if_verifies, method_in_profile, typing_of}
+use Rattle.cil_meaning.specs.Typing.{Typing, if_verifies, method_in_profile, typing_of}
 
 pub both_left : (a b : Bool) → (a && b) ≡ true → a ≡ true
 both_left true b e = refl

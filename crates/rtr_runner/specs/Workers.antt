@@ -3,11 +3,11 @@ use Rattle.std.specs.Prelude.{◌≡◌, ℕ, ◌%◌, ◌^◌, ℤ, List, [], O
 use Rattle.std.specs.Option.{option_map_or}
 use Rattle.std.specs.Int.{w128, cast_unsigned}
 use Rattle.type_world.specs.declared.identity.MethodId.{MethodId}
-use Rattle.type_world.specs.declared.ending.Ending.{Ending}
+use Rattle.cil_meaning.specs.declared.ending.Ending.{Ending}
 use Rattle.type_world.specs.World.{World}
 use Rattle.type_world.specs.Entries.{can_start}
-use Rattle.type_world.specs.State.{Run, Over}
-use Rattle.type_world.specs.Run.{cil}
+use Rattle.cil_meaning.specs.State.{Run, Over}
+use Rattle.cil_meaning.specs.Run.{cil}
 
 -- ---- what is seen of a run that is over: the bytes that it printed, and how it ended
 

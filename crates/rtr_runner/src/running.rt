@@ -2,18 +2,19 @@
 
 ghost use Rattle.std.specs.Prelude.{◌≡◌, ◌<◌, [], List, map, IfOk};
 ghost use Rattle.type_world.specs.Loading.{world_of};
-ghost use Rattle.type_world.specs.State.{Begun, no_objects};
-ghost use Rattle.type_world.specs.Run.{enter};
+ghost use Rattle.cil_meaning.specs.State.{Begun, no_objects};
+ghost use Rattle.cil_meaning.specs.Run.{enter};
 ghost use Rattle.cil_interp.specs.Frames.{PassesAll, passed};
 ghost use Rattle.cil_interp.specs.Ran.{RunEnds};
 ghost use Rattle.cil_interp.specs.Table.{IsTable};
 ghost use Rattle.rtr_runner.specs.Workers.{low_word};
 
 use cil_interp::{Bodies, CilFrames, Event, Meter};
+use cil_meaning::Ending;
 use rtr_bytes::NoMemory;
 use rtr_heap::Memory;
 use std::alloc::Global;
-use type_world::{BUILT_IN, Ending, MethodId, World};
+use type_world::{BUILT_IN, MethodId, World};
 
 /// The low 64 bits of each number.
 pub(crate) fn words_of(alloc: Global, numbers: &[i128]) -> Result<Vec<u64>, NoMemory>

@@ -9,11 +9,12 @@ ghost use Rattle.rtr_runner.specs.Workers.{IsReady, ends_as, new_worker, output_
 
 use crate::running::{run_entry, words_of};
 use cil_interp::{Bodies, CilFrames};
+use cil_meaning::{Ending, runs_end};
 use rtr_bytes::NoMemory;
 use rtr_heap::Memory;
 use std::alloc::Global;
 use std::marker::Model;
-use type_world::{BUILT_IN, Ending, MethodId, World, runs_end};
+use type_world::{BUILT_IN, MethodId, World};
 
 /// A worker: an entry with its numbers and ticks. After it has run it has the lines that it printed, and how it ended.
 ///

@@ -32,8 +32,3 @@ pub use length::written_len;
 pub use plan::{can_write_rtr, is_well_planned};
 pub use slots::Slot;
 pub use written::{Written, write_rtr};
-
-#[cfg(test)]
-mod tests;
-#[cfg(test)]
-mod write_tests;

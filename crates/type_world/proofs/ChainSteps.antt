@@ -12,7 +12,7 @@ use Rattle.type_world.specs.declared.identity.TypeId.{TypeId}
 use Rattle.type_world.specs.declared.identity.TypeId.TheVariants as types
 use Rattle.type_world.specs.Loading.{world_of}
 use Rattle.type_world.specs.Resolution.{base_by_token, base_of, base_of_class, chain_of, chain_within, then_base, type_eq}
-use Rattle.type_world.specs.Typing.{common_base}
+use Rattle.type_world.specs.Resolution.{common_base}
 use Rattle.type_world.specs.World.{World, assembly_in, rows_of_world}
 use Rattle.type_world.proofs.TypeRefs.{at_none, at_some}
 

@@ -1,20 +1,9 @@
-mod Examples
 mod ClassExamples
-mod Bound
-mod Decoded
-mod Typed
-mod Sound
-mod Entered
-mod Runs
-mod Chains
-mod Widening
-mod Monotone
-pub mod Rounds
-mod Least
+pub mod Bound
+pub mod Decoded
+pub mod Chains
 mod Names
 mod Counts
-mod Untyped
-mod FirstUntyped
 mod FullNames
 mod Listed
 mod TypeNames

@@ -3,14 +3,7 @@ pub mod Resolution
 pub mod Members
 pub mod Profile
 pub mod Numbers
-pub mod Arithmetic
-pub mod State
-pub mod Typing
-pub mod Step
-pub mod Run
 pub mod Entries
-pub mod Soundness
-pub mod Laws
 pub mod Loading
 pub mod Kept
 pub mod RowIndex

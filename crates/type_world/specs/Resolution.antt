@@ -1,7 +1,7 @@
 -- Types: what a TypeDef or TypeRef token names, the base chain of a type, and which types fit another one.
 use Rattle.std.specs.Prelude.{ℕ, zero, suc, ◌+◌, ◌/◌, ◌^◌, ◌==◌, ◌&&◌, ◌||◌, not, Bool, true, false, List, [], ◌∷◌}
 use Rattle.std.specs.Prelude.{find, codes, Option, Some, None, if◌then◌else◌}
-use Rattle.std.specs.Option.{option_map, option_and_then}
+use Rattle.std.specs.Option.{option_map, option_map_or, option_and_then}
 use Rattle.std.specs.List.{list_any}
 use Rattle.std.specs.Str.{bytes_eq}
 use Rattle.metadata.specs.declared.schema.Table.TheVariants as tables
@@ -172,6 +172,11 @@ chain_of world of = chain_within (rows_of_world world tables.TypeDef + 1) world 
 -- ---- which references fit a type: those to the type itself and to the types that extend it; each fits System.Object
 unfoldable pub fits : World → TypeId → TypeId → Bool
 fits world of to = type_eq to types.Object || list_any (type_eq to) (chain_of world of)
+
+-- the nearest type that two types fit
+abbrev pub common_base : World → TypeId → TypeId → TypeId
+common_base world of other =
+    option_map_or (λ base. base) (find (λ base. list_any (type_eq base) (chain_of world other)) (chain_of world of)) types.Object
 
 -- ---- the type that declares a row of MethodDef or of Field: the first whose list has it
 

@@ -7,7 +7,7 @@ ghost use Rattle.type_world.specs.Loading.{as_method, world_of};
 ghost use Rattle.type_world.specs.Resolution.{fits, resolve_type};
 ghost use Rattle.type_world.specs.Members.{class_of_method, resolve_method};
 ghost use Rattle.type_world.specs.Profile.{profile_method, profile_shape, shape_in_profile, type_in_profile};
-ghost use Rattle.type_world.specs.Typing.{common_base};
+ghost use Rattle.type_world.specs.Resolution.{common_base};
 
 use crate::identity::{MethodId, TypeId};
 use crate::place::{Place, Shape};

@@ -6,7 +6,7 @@ ghost use Rattle.type_world.specs.Kept.{kept_in};
 ghost use Rattle.type_world.specs.Loading.{world_of};
 ghost use Rattle.type_world.specs.Resolution.{base_of, fits, resolve_ref, resolve_type};
 ghost use Rattle.type_world.specs.Members.{class_of_method};
-ghost use Rattle.type_world.specs.Typing.{common_base};
+ghost use Rattle.type_world.specs.Resolution.{common_base};
 ghost use Rattle.type_world.specs.World.{rows_of_world};
 
 use crate::assemblies::Assemblies;

@@ -1,7 +1,7 @@
 use Rattle.std.proofs.Common.{◌≡◌, List, length}
 use Rattle.type_world.specs.Loading.{world_of}
-use Rattle.type_world.specs.State.{Begun, Going, no_objects}
-use Rattle.type_world.specs.Run.{Reaches}
+use Rattle.cil_meaning.specs.State.{Begun, Going, no_objects}
+use Rattle.cil_meaning.specs.Run.{Reaches}
 use Rattle.cil_interp.specs.Frames.{Runs, frames_are, state_of}
 use Rattle.cil_interp.proofs.following.run_all.Given as goal
 

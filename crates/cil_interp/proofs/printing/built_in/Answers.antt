@@ -1,7 +1,7 @@
 use Rattle.std.proofs.Common.{◌≡◌, sym, ap, ◌∙◌, refl, arith, rules}
-use Rattle.type_world.specs.declared.ending.Ending.TheVariants as endings
+use Rattle.cil_meaning.specs.declared.ending.Ending.TheVariants as endings
 use Rattle.type_world.specs.Loading.{world_of}
-use Rattle.type_world.specs.State.{no_objects}
+use Rattle.cil_meaning.specs.State.{no_objects}
 use Rattle.cil_interp.specs.Frames.{ended}
 use Rattle.cil_interp.proofs.Entering.{no_ticks}
 use Rattle.cil_interp.proofs.Printed.{output_full, printed_line}

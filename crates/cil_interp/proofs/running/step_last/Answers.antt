@@ -1,8 +1,8 @@
 use Rattle.std.proofs.Common.{◌≡◌, ◌≤◌, length, sym, ap, ◌∙◌, arith, subst, List}
 use Rattle.type_world.specs.World.{World}
 use Rattle.type_world.specs.Loading.{world_of}
-use Rattle.type_world.specs.State.{no_objects}
-use Rattle.type_world.specs.Run.{step}
+use Rattle.cil_meaning.specs.State.{no_objects}
+use Rattle.cil_meaning.specs.Run.{step}
 use Rattle.cil_interp.specs.Means.{Means}
 use Rattle.cil_interp.proofs.Comes.{left_is}
 use Rattle.cil_interp.proofs.Reached.{end_within}

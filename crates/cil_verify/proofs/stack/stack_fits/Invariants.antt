@@ -1,6 +1,6 @@
 use Rattle.std.proofs.Common.{◌≡◌, drop}
 use Rattle.type_world.specs.Loading.{world_of}
-use Rattle.type_world.specs.Typing.{stack_fits}
+use Rattle.cil_meaning.specs.Typing.{stack_fits}
 use Rattle.cil_verify.proofs.stack.stack_fits.Given as goal
 
 abbrev pub invariant-loop-i : goal.invariant-loop-i

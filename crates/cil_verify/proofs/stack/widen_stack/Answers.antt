@@ -1,5 +1,5 @@
 use Rattle.std.proofs.Common.{◌<◌, length, ◌∙◌, sym, arith}
-use Rattle.type_world.specs.declared.kind.Kind.TheVariants as kinds
+use Rattle.cil_meaning.specs.declared.kind.Kind.TheVariants as kinds
 use Rattle.type_world.specs.Loading.{world_of}
 use Rattle.cil_verify.proofs.Widened.{widens_end, widens_more}
 use Rattle.cil_verify.proofs.stack.widen_stack.Goals as goal

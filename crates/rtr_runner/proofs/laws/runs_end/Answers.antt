@@ -1,4 +1,4 @@
-use Rattle.type_world.specs.Run.{cil}
+use Rattle.cil_meaning.specs.Run.{cil}
 use Rattle.rtr_runner.proofs.Ends.{over_ends}
 use Rattle.rtr_runner.proofs.laws.runs_end.Goals as goal
 

@@ -1,8 +1,8 @@
 use Rattle.std.proofs.Common.{◌≡◌, arith, length, sym, ap, ◌∙◌, subst}
 use Rattle.std.proofs.lemmas.List.{with_items_is}
 use Rattle.type_world.specs.Loading.{world_of}
-use Rattle.type_world.specs.State.{no_objects}
-use Rattle.type_world.specs.Run.{give}
+use Rattle.cil_meaning.specs.State.{no_objects}
+use Rattle.cil_meaning.specs.Run.{give}
 use Rattle.cil_interp.specs.Frames.{GoesOn, frames_are, given_to, waiting_in}
 use Rattle.cil_interp.proofs.frames.CilFrames.give.Goals as goal
 

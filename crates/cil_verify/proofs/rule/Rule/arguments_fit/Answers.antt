@@ -1,6 +1,6 @@
 use Rattle.std.proofs.Common.{◌≡◌, ◌+◌, Some, None, length, drop, sym, ap, ◌∙◌, if◌then◌else◌, arith}
 use Rattle.cli_assembly.specs.declared.element.Elem.TheVariants as elems
-use Rattle.type_world.specs.declared.kind.Kind.TheVariants as kinds
+use Rattle.cil_meaning.specs.declared.kind.Kind.TheVariants as kinds
 use Rattle.type_world.specs.declared.place.Place.TheVariants as places
 use Rattle.type_world.specs.Loading.{world_of}
 use Rattle.cil_verify.proofs.Fitted.{left, none_left, one_more}

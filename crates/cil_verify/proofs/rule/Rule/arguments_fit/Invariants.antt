@@ -1,6 +1,6 @@
 use Rattle.std.proofs.Common.{◌≡◌, ◌-◌, [], take, drop, length}
 use Rattle.type_world.specs.Loading.{world_of}
-use Rattle.type_world.specs.Typing.{last_first, under_arguments}
+use Rattle.cil_meaning.specs.Typing.{last_first, under_arguments}
 use Rattle.cil_verify.proofs.rule.Rule.arguments_fit.Given as goal
 
 abbrev pub invariant-loop-i : goal.invariant-loop-i

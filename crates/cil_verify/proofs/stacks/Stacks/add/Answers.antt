@@ -1,6 +1,6 @@
 use Rattle.std.proofs.Common.{◌≡◌, [], ◌∷◌, ◌++◌, Some, None, get_or, sym, ap, ◌∙◌, arith}
 use Rattle.type_world.specs.Loading.{world_of}
-use Rattle.type_world.specs.Typing.{with_stack}
+use Rattle.cil_meaning.specs.Typing.{with_stack}
 use Rattle.cil_verify.specs.Places.{place_of}
 use Rattle.cil_verify.proofs.Indexed.{missing, placed, widened_indexed, widened_there}
 use Rattle.cil_verify.proofs.stacks.Stacks.add.Goals as goal

@@ -1,6 +1,6 @@
 use Rattle.std.proofs.Common.{◌≡◌, ℕ, List, [], Some, None, get_or, sym, ap, ◌∙◌, arith}
-use Rattle.type_world.specs.declared.kind.Kind.{Kind}
-use Rattle.type_world.specs.Typing.{stack_at}
+use Rattle.cil_meaning.specs.declared.kind.Kind.{Kind}
+use Rattle.cil_meaning.specs.Typing.{stack_at}
 use Rattle.cil_verify.specs.Places.{place_of}
 use Rattle.cil_verify.proofs.Indexed.{missing, placed}
 use Rattle.cil_verify.proofs.stacks.Stacks.stack_at.Goals as goal

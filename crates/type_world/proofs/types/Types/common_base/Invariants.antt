@@ -3,7 +3,7 @@ use Rattle.std.specs.List.{list_any}
 use Rattle.metadata.specs.declared.schema.Table.TheVariants as tables
 use Rattle.type_world.specs.Loading.{world_of}
 use Rattle.type_world.specs.Resolution.{chain_of, type_eq}
-use Rattle.type_world.specs.Typing.{common_base}
+use Rattle.type_world.specs.Resolution.{common_base}
 use Rattle.type_world.specs.World.{rows_of_world}
 use Rattle.type_world.proofs.ChainSteps.{nearest}
 use Rattle.type_world.proofs.ComesBack.{Walked}
