@@ -1,0 +1,10 @@
+pub mod WholeSteps
+pub mod Straight
+pub mod Bounds
+pub mod WordSteps
+pub mod Acts
+pub mod Examples
+pub mod Emulating
+pub mod EmulatedNumbers
+pub mod EmulatedMemory
+pub mod EmulatedBranches
